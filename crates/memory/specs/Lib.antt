@@ -1,0 +1,5 @@
+pub mod Byte
+pub mod Items
+pub mod Reads
+pub mod Refusals
+pub mod Sources
