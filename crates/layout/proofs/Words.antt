@@ -15,7 +15,7 @@ use Rattle.std.proofs.shelf.Lists.{drop-more, drop-drop, take-all, drop-at, tak
 use Rattle.std.proofs.shelf.Parts.{overwrites}
 use Rattle.std.proofs.shelf.Tests.{le-leb, leb-true, cond-true}
 use Rattle.std.specs.declared.option.Option.the-variants.{Some}
-use Rattle.layout.specs.Words.{le-value, le-bytes, word-at, overwritten, with-word}
+use Rattle.layout.specs.Words.{le-value, le-bytes, le-at, word-at, overwritten, with-word}
 
 -- the n bytes of a list from the place at + k on
 abbrev pub bytes-from : ℕ → List ℕ → ℕ → ℕ → List ℕ
@@ -31,10 +31,8 @@ part-is (suc n) bs at k h =
     ap (take (suc n)) here ∙ ap (λ t. getD bs (at + k) 0 ∷ t) rest
 
 -- a word that lies in the list, by its bytes
-pub word-is : (n : ℕ) (bs : List ℕ) (at : ℕ) → at + n ≤ length bs → word-at n bs at ≡ Some (le-value (bytes-from n bs at 0))
-word-is n bs at h =
-    let part = ap (λ j. take n (drop j bs)) (sym (add-zero at)) ∙ part-is n bs at 0 (omega arith) in
-    cond-true _ _ _ (le-leb _ _ h) ∙ ap (λ l. Some (le-value l)) part
+pub word-is : (n : ℕ) (bs : List ℕ) (at : ℕ) → at + n ≤ length bs → le-at n bs at ≡ le-value (bytes-from n bs at 0)
+word-is n bs at h = ap le-value (ap (λ j. take n (drop j bs)) (sym (add-zero at)) ∙ part-is n bs at 0 (omega arith))
 
 -- a whole list of n bytes
 pub value-is : (n : ℕ) (bs : List ℕ) → length bs ≡ n → le-value bs ≡ le-value (bytes-from n bs 0 0)

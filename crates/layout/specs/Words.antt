@@ -17,9 +17,13 @@ unfoldable pub le-bytes : ℕ → ℕ → List ℕ
 le-bytes zero v = []
 le-bytes (suc n) v = (v % 256) ∷ le-bytes n (v / 256)
 
--- the number of n bytes at a place, if they lie in the list
+-- the number of n bytes at a place
+abbrev pub le-at : ℕ → List ℕ → ℕ → ℕ
+le-at n bs at = le-value (take n (drop at bs))
+
+-- the same, if they lie in the list
 abbrev pub word-at : ℕ → List ℕ → ℕ → Option ℕ
-word-at n bs at = cond (leb (at + n) (length bs)) (Some (le-value (take n (drop at bs)))) None
+word-at n bs at = cond (leb (at + n) (length bs)) (Some (le-at n bs at)) None
 
 -- the list with some bytes over those from a place on; the rest is as it was
 abbrev pub overwritten : List ℕ → ℕ → List ℕ → List ℕ

@@ -5,7 +5,7 @@ ghost use lib.Dec.{T, leb};
 ghost use lib.ListN.{length};
 ghost use mathlib.Core.Bool.{cond};
 ghost use Rattle.std.specs.declared.option.Option.the-variants.{Some};
-ghost use Rattle.layout.specs.Words.{word-at, with-word, overwritten};
+ghost use Rattle.layout.specs.Words.{le-at, word-at, with-word, overwritten};
 
 // Whether `width` bytes lie in `size` from `at` on.
 fn lies_in(size: usize, at: usize, width: usize) -> bool
@@ -14,34 +14,28 @@ fn lies_in(size: usize, at: usize, width: usize) -> bool
     at <= size && width <= size - at
 }
 
-// The 16 bits at `at`, or none where they pass the end.
-pub fn read_u16(bytes: &[u8], at: usize) -> Option<u16>
-    ensures { λ r. ⌜ r ≡ word-at 2 (now (bytes .entry)) at ⌝ }
+// The 16 bits at `at`, which lie in the slice.
+pub fn u16_at(bytes: &[u8], at: usize) -> u16
+    requires { ⌜ at + 2 ≤ length (now bytes) ⌝ }
+    ensures { λ r. ⌜ r ≡ le-at 2 (now (bytes .entry)) at ⌝ }
 {
-    if !lies_in(bytes.len(), at, 2) {
-        return None;
-    }
-    Some(u16::from_le_bytes([bytes[at], bytes[at + 1]]))
+    u16::from_le_bytes([bytes[at], bytes[at + 1]])
 }
 
-// The 32 bits at `at`, or none where they pass the end.
-pub fn read_u32(bytes: &[u8], at: usize) -> Option<u32>
-    ensures { λ r. ⌜ r ≡ word-at 4 (now (bytes .entry)) at ⌝ }
+// The 32 bits at `at`, which lie in the slice.
+pub fn u32_at(bytes: &[u8], at: usize) -> u32
+    requires { ⌜ at + 4 ≤ length (now bytes) ⌝ }
+    ensures { λ r. ⌜ r ≡ le-at 4 (now (bytes .entry)) at ⌝ }
 {
-    if !lies_in(bytes.len(), at, 4) {
-        return None;
-    }
-    Some(u32::from_le_bytes([bytes[at], bytes[at + 1], bytes[at + 2], bytes[at + 3]]))
+    u32::from_le_bytes([bytes[at], bytes[at + 1], bytes[at + 2], bytes[at + 3]])
 }
 
-// The 64 bits at `at`, or none where they pass the end.
-pub fn read_u64(bytes: &[u8], at: usize) -> Option<u64>
-    ensures { λ r. ⌜ r ≡ word-at 8 (now (bytes .entry)) at ⌝ }
+// The 64 bits at `at`, which lie in the slice.
+pub fn u64_at(bytes: &[u8], at: usize) -> u64
+    requires { ⌜ at + 8 ≤ length (now bytes) ⌝ }
+    ensures { λ r. ⌜ r ≡ le-at 8 (now (bytes .entry)) at ⌝ }
 {
-    if !lies_in(bytes.len(), at, 8) {
-        return None;
-    }
-    Some(u64::from_le_bytes([
+    u64::from_le_bytes([
         bytes[at],
         bytes[at + 1],
         bytes[at + 2],
@@ -50,7 +44,40 @@ pub fn read_u64(bytes: &[u8], at: usize) -> Option<u64>
         bytes[at + 5],
         bytes[at + 6],
         bytes[at + 7],
-    ]))
+    ])
+}
+
+// The 16 bits at `at`, or none where they pass the end.
+pub fn read_u16(bytes: &[u8], at: usize) -> Option<u16>
+    ensures { λ r. ⌜ r ≡ word-at 2 (now (bytes .entry)) at ⌝ }
+{
+    if lies_in(bytes.len(), at, 2) {
+        Some(u16_at(bytes, at))
+    } else {
+        None
+    }
+}
+
+// The 32 bits at `at`, or none where they pass the end.
+pub fn read_u32(bytes: &[u8], at: usize) -> Option<u32>
+    ensures { λ r. ⌜ r ≡ word-at 4 (now (bytes .entry)) at ⌝ }
+{
+    if lies_in(bytes.len(), at, 4) {
+        Some(u32_at(bytes, at))
+    } else {
+        None
+    }
+}
+
+// The 64 bits at `at`, or none where they pass the end.
+pub fn read_u64(bytes: &[u8], at: usize) -> Option<u64>
+    ensures { λ r. ⌜ r ≡ word-at 8 (now (bytes .entry)) at ⌝ }
+{
+    if lies_in(bytes.len(), at, 8) {
+        Some(u64_at(bytes, at))
+    } else {
+        None
+    }
 }
 
 // Puts `word` over the bytes from `at` on where there are enough, and else changes nothing and answers false.

@@ -1,0 +1,14 @@
+// Serves requests on standard input, one answer a line on standard output.
+mod list;
+mod pile;
+mod reading;
+mod serve;
+mod stop;
+mod world;
+
+use crate::serve::serve;
+use std::io;
+
+fn main(rt: LibcRuntime) -> io::Result<()> {
+    serve(&rt)
+}

@@ -1,0 +1,5 @@
+pub mod Cuts
+pub mod Digits
+pub mod Reading
+pub mod Records
+pub mod Strings
