@@ -3,7 +3,10 @@ mod list;
 mod pile;
 mod reading;
 mod serve;
+mod short;
 mod stop;
+mod tabling;
+mod viewing;
 mod world;
 
 use crate::serve::serve;

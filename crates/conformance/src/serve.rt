@@ -2,6 +2,8 @@
 use crate::reading::read;
 use crate::stop::Stop;
 use crate::stop::StopFromBad;
+use crate::tabling::table;
+use crate::viewing::info;
 use protocol::bad::Bad;
 use protocol::parts::Parts;
 use protocol::write::push_decimal;
@@ -15,14 +17,18 @@ use std::io::Write;
 
 // The line without its line feed, and without a carriage return before that.
 fn trimmed(line: &[u8]) -> &[u8] {
-    let line = line.strip_suffix(b"\n").unwrap_or(line);
-    line.strip_suffix(b"\r").unwrap_or(line)
+    match line.strip_suffix(b"\n") {
+        Some(rest) => rest.strip_suffix(b"\r").unwrap_or(rest),
+        None => line,
+    }
 }
 
 fn request(heap: Global, text: &[u8], line: &mut Vec<u8>) -> Result<(), Stop> {
     let mut fields = Parts::new(text, b' ');
     match fields.part()? {
         b"read" => read(heap, fields, line),
+        b"table" => table(heap, fields, line),
+        b"info" => info(heap, fields, line),
         _ => Err(Stop::Bad(Bad::UnknownRequest)),
     }
 }
@@ -36,6 +42,13 @@ fn answer(heap: Global, text: &[u8], line: &mut Vec<u8>) -> Result<(), AllocErro
             line.clear();
             line.extend_from_slice(b"refused ")?;
             push_decimal(line, u128::from(number))?;
+        }
+        Err(Stop::RefusedAt(number, slot)) => {
+            line.clear();
+            line.extend_from_slice(b"refused ")?;
+            push_decimal(line, u128::from(number))?;
+            line.extend_from_slice(b" ")?;
+            push_decimal(line, u128::from(slot))?;
         }
         Err(Stop::Bad(bad)) => {
             line.clear();

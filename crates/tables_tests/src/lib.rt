@@ -1,0 +1,5 @@
+// Examples of tables and infos; most cases are lines of the conformance program.
+#[cfg(test)]
+mod damage;
+#[cfg(test)]
+mod examples;
