@@ -1,0 +1,3 @@
+pub mod Decodings
+pub mod Encodings
+pub mod Laws
