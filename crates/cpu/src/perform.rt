@@ -38,8 +38,8 @@ fn may_stand(low: u64, size: usize, rsp: u64) -> bool
     low <= rsp && rsp - low <= size as u64
 }
 
-// Whether the eight bytes lie in the area.
-fn holds(low: u64, size: usize, at: u64) -> bool
+// Whether the eight bytes at an address lie in the area.
+pub fn holds(low: u64, size: usize, at: u64) -> bool
     ensures { λ r. ⌜ r ≡ holds-word low size at ⌝ }
 {
     low <= at && size >= 8 && at - low <= size as u64 - 8
@@ -56,7 +56,8 @@ fn may_access(access: Access, low: u64, size: usize) -> bool
     }
 }
 
-fn put(registers: &mut Registers, register: u8, value: u64)
+// Puts a value into an integer register; there may be no such register.
+pub fn put(registers: &mut Registers, register: u8, value: u64)
     ensures { λ _. ⌜ now (registers .exit) ≡ with-register (now (registers .entry)) register value ⌝ }
 {
     if register < 16 {
