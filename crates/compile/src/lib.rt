@@ -1,4 +1,6 @@
 // Compiling a plan into code, unwind infos and a function table.
+#![tactic(auto)]
+
 pub mod compile;
 mod info;
 mod layout_of;

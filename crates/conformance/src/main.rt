@@ -1,4 +1,6 @@
 // Serves requests on standard input, one answer a line on standard output.
+#![tactic(auto)]
+
 mod compiling;
 mod list;
 mod pile;

@@ -1,4 +1,6 @@
 // The plain data that every layer shares: addresses, registers and little-endian words.
+#![tactic(auto)]
+
 pub mod address;
 pub mod refusal;
 pub mod registers;

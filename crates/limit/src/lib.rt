@@ -1,4 +1,6 @@
 // The limit layer: a memory that shows only what lies inside its windows.
+#![tactic(auto)]
+
 pub mod layer;
 pub mod table;
 pub mod window;

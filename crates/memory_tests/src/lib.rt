@@ -1,4 +1,6 @@
 // Piles of layers read through one contract, and examples of every refusal of sources and limits.
+#![tactic(auto)]
+
 ghost use Rattle.std.specs.Prelude.{◌≡◌, take};
 ghost use Rattle.std.specs.Result.{result_map_both};
 ghost use Rattle.limit.specs.Windows.{limited};

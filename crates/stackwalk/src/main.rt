@@ -1,4 +1,6 @@
 // Shows dumps with holes and function tables to people.
+#![tactic(auto)]
+
 mod demo;
 mod memories;
 mod names;

@@ -1,4 +1,6 @@
 // The kinds of prologue steps, behind one interface.
+#![tactic(auto)]
+
 pub mod allocate;
 pub mod kind;
 pub mod push;

@@ -1,4 +1,6 @@
 // Function tables: their entries, loading one, and a module with its checks.
+#![tactic(auto)]
+
 pub mod entry;
 pub mod load;
 pub mod module;

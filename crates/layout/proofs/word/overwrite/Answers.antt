@@ -3,6 +3,6 @@ use Rattle.layout.proofs.word.overwrite.Goals as goal
 
 pub returns : goal.returns
 returns c = record {
-  answer = c.if-not-lies-in.ensures;
-  after = copied c.args.bytes.now c.args.at _ c.args.word.now c.copy-from-slice.ensures.after;
+  answer = c.if-not-lies_in.ensures;
+  after = copied c.args.bytes.now c.args.at _ c.args.word.now c.copy_from_slice.ensures.after;
 }

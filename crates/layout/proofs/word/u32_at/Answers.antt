@@ -9,5 +9,5 @@ returns c =
     let bs = c.args.bytes.now in
     let at = c.args.at in
     let first = ap (λ i. get_or bs i 0) (add-zero at) in
-    let sum : c.from-le-bytes.result ≡ le_value (bytes_from 4 bs at 0) = omega (arith, c.from-le-bytes.ensures, first) in
+    let sum : c.from_le_bytes.result ≡ le_value (bytes_from 4 bs at 0) = omega (arith, c.from_le_bytes.ensures, first) in
     sum ∙ sym (word_is 4 bs at c.requires)

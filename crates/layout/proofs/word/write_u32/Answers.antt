@@ -8,6 +8,6 @@ pub returns : goal.returns
 unfolding le_bytes
 returns c =
     let v = c.args.long in
-    let spelled : c.to-le-bytes.result ≡ le_bytes 4 v = c.to-le-bytes.ensures ∙ sym (simp div-div-eq-div-mul) in
+    let spelled : c.to_le_bytes.result ≡ le_bytes 4 v = c.to_le_bytes.ensures ∙ sym (simp div-div-eq-div-mul) in
     let done = put_down 4 c.args.bytes.now c.args.at v (omega arith) _ _ _ spelled c.overwrite.ensures.answer c.overwrite.ensures.after in
     record { answer = done.0; after = done.1; back = done.2 }
