@@ -22,8 +22,8 @@ pub trait Span {
 // The index of the record that holds `key`, or none, by halving.
 // On records that are not in ascending order it may miss one, but what it answers does hold the key.
 pub fn find<R: Span>(records: &[R], key: R::Key) -> Option<usize>
-    ensures finds { ascending first last records.now ≡ true → result ≡ found first last (R.Key.Position.position key) records.now }
-    ensures inside { IfSome result (λ i. (i < length records.now) × ((d : R) → (first (slice_index_or records.now i d) ≤ R.Key.Position.position key) × (R.Key.Position.position key ≤ last (slice_index_or records.now i d)))) }
+    ensures finds { ascending R.first R.last records.now ≡ true → result ≡ found R.first R.last (R.Key.Position.position key) records.now }
+    ensures inside { IfSome result (λ i. (i < length records.now) × ((d : R) → (R.first (slice_index_or records.now i d) ≤ R.Key.Position.position key) × (R.Key.Position.position key ≤ R.last (slice_index_or records.now i d)))) }
 {
     let wanted = key.position();
     let mut low = 0;
@@ -44,7 +44,7 @@ pub fn find<R: Span>(records: &[R], key: R::Key) -> Option<usize>
 
 // Whether no record ends before it starts, and each starts past the end of the one before.
 pub fn ascends<R: Span>(records: &[R]) -> bool
-    ensures { result ≡ ascending first last records.now }
+    ensures { result ≡ ascending R.first R.last records.now }
 {
     let mut i = 0;
     while i < records.len() {
