@@ -39,8 +39,8 @@ impl From<Lacking> for ItemFault {
 
 // Byte `i` of the item that starts at `start`.
 fn read_byte<M: Memory>(m: &mut M, start: Address, i: u64) -> Result<u8, ItemFault>
-    ensures answer { result_map_both (λ x. x) item_fault result ≡ item_byte (shows m.old) start.0 i }
-    ensures same { shows m.new ≡ shows m.old }
+    ensures answer { result_map_both (λ x. x) item_fault result ≡ item_byte (M.shows m.old) start.0 i }
+    ensures same { M.shows m.new ≡ M.shows m.old }
 {
     let Some(at) = start.0.checked_add(i) else {
         return Err(ItemFault::PastEnd(start));
@@ -51,8 +51,8 @@ fn read_byte<M: Memory>(m: &mut M, start: Address, i: u64) -> Result<u8, ItemFau
 
 // Fills `out` with the bytes of the item that starts at `start`.
 fn read_bytes<M: Memory>(m: &mut M, start: Address, out: &mut [u8]) -> Result<(), ItemFault>
-    ensures answer { result_map_both (λ _. out.new) item_fault result ≡ item_bytes (shows m.old) start.0 (length out.old) }
-    ensures same { shows m.new ≡ shows m.old }
+    ensures answer { result_map_both (λ _. out.new) item_fault result ≡ item_bytes (M.shows m.old) start.0 (length out.old) }
+    ensures same { M.shows m.new ≡ M.shows m.old }
 {
     for i in 0..out.len() {
         let b = read_byte(m, start, i as u64)?;
@@ -63,8 +63,8 @@ fn read_bytes<M: Memory>(m: &mut M, start: Address, out: &mut [u8]) -> Result<()
 
 // The 8 bytes from `start` on, as a number.
 pub fn read_word<M: Memory>(m: &mut M, start: Address) -> Result<u64, ItemFault>
-    ensures answer { result_map_both (λ x. x) item_fault result ≡ item 8 (shows m.old) start.0 }
-    ensures same { shows m.new ≡ shows m.old }
+    ensures answer { result_map_both (λ x. x) item_fault result ≡ item 8 (M.shows m.old) start.0 }
+    ensures same { M.shows m.new ≡ M.shows m.old }
 {
     let mut word = [0; 8];
     read_bytes(m, start, &mut word)?;
@@ -73,8 +73,8 @@ pub fn read_word<M: Memory>(m: &mut M, start: Address) -> Result<u64, ItemFault>
 
 // The 16 bytes from `start` on, as a number.
 pub fn read_xmm<M: Memory>(m: &mut M, start: Address) -> Result<u128, ItemFault>
-    ensures answer { result_map_both (λ x. x) item_fault result ≡ item 16 (shows m.old) start.0 }
-    ensures same { shows m.new ≡ shows m.old }
+    ensures answer { result_map_both (λ x. x) item_fault result ≡ item 16 (M.shows m.old) start.0 }
+    ensures same { M.shows m.new ≡ M.shows m.old }
 {
     let mut xmm = [0; 16];
     read_bytes(m, start, &mut xmm)?;

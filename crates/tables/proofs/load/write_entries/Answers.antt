@@ -7,4 +7,4 @@ pub loop-k-preserved : goal.loop-k-preserved
 loop-k-preserved c =
     let h : c.loop-k.k < length c.args.records.now = omega arith in
     let step = front_more (λ k. entry_at c.args.bytes.now (12 * k)) c.args.records.now c.loop-k.k h in
-    simp (c.loop-k.invariant, c.entry-in.ensures) step
+    simp (c.loop-k.invariant, c.entry_in.ensures) step

@@ -16,8 +16,8 @@ told s at o finds =
     let f = finds (in_order rs (length bytes) s.ok) in
     ap (λ b. answer b at) (shown_by_found rs bytes at.0 ∙ ap (byte_of rs bytes at.0) (sym f))
 
-pub overflow-add-result : goal.overflow-add-result
-overflow-add-result c =
+pub overflow_add-result : goal.overflow_add-result
+overflow_add-result c =
     let s = c.args.self.now in
     let f = c.in-Some.ensures.inside in
     let d : DumpRange = record { start = record { 0 = 0 }; length = 0; place = 0 } in
