@@ -6,19 +6,19 @@ use Rattle.std.proofs.lemmas.Bool.{cond_above, cond_below}
 use Rattle.protocol.proofs.Values.{value-next, value-reaches}
 use Rattle.protocol.proofs.number.digits_value.Goals as goal
 
-pub returns-in-err-shifted : goal.returns-in-err-shifted
-returns-in-err-shifted c =
+pub returns-in_err-shifted : goal.returns-in_err-shifted
+returns-in_err-shifted c =
     let n = c.loop-b.n in
     let most = value-reaches c.args.radix c.requires c.args.text.now c.loop-b.b-index n c.loop-b-test.true c.loop-b.invariant.0 in
     let same : n * c.from.result ≡ n * c.args.radix = ap (λ r. n * r) c.from.ensures in
-    c.from-residual.ensures ∙ cond_above (digits_value c.args.radix c.args.text.now) (2 ^ 128) _ _ _ (omega (arith, most, same, c.in-err-shifted.ensures)) refl
+    c.from_residual.ensures ∙ cond_above (digits_value c.args.radix c.args.text.now) (2 ^ 128) _ _ _ (omega (arith, most, same, c.in_err-shifted.ensures)) refl
 
-pub returns-in-err-n : goal.returns-in-err-n
-returns-in-err-n c =
+pub returns-in_err-n : goal.returns-in_err-n
+returns-in_err-n c =
     let n = c.loop-b.n in
     let most = value-reaches c.args.radix c.requires c.args.text.now c.loop-b.b-index n c.loop-b-test.true c.loop-b.invariant.0 in
     let same : n * c.from.result ≡ n * c.args.radix = ap (λ r. n * r) c.from.ensures in
-    c.from-residual-in-err-n.ensures ∙ cond_above (digits_value c.args.radix c.args.text.now) (2 ^ 128) _ _ _ (omega (arith, most, same, c.in-ok-shifted.ensures, c.digit-value.ensures, c.from-in-loop-b.ensures, c.in-err-n.ensures)) refl
+    c.from_residual-in_err-n.ensures ∙ cond_above (digits_value c.args.radix c.args.text.now) (2 ^ 128) _ _ _ (omega (arith, most, same, c.in_ok-shifted.ensures, c.digit_value.ensures, c.from-in-loop-b.ensures, c.in_err-n.ensures)) refl
 
 pub loop-b-preserved : goal.loop-b-preserved
 loop-b-preserved c =
@@ -27,8 +27,8 @@ loop-b-preserved c =
     let i = c.loop-b.b-index in
     let next = value-next c.args.radix c.requires text i n c.loop-b-test.true c.loop-b.invariant.0 in
     let same : n * c.from.result ≡ n * c.args.radix = ap (λ r. n * r) c.from.ensures in
-    let sum : n * c.args.radix + digit_value (get_or text i 0) ≡ c.in-ok-n.n = omega (arith, same, c.in-ok-shifted.ensures, c.digit-value.ensures, c.from-in-loop-b.ensures, c.in-ok-n.ensures) in
-    (next ∙ ap (λ m. digits_value_after c.args.radix m (drop (i + 1) text)) sum, omega (arith, c.in-ok-n.ensures))
+    let sum : n * c.args.radix + digit_value (get_or text i 0) ≡ c.in_ok-n.n = omega (arith, same, c.in_ok-shifted.ensures, c.digit_value.ensures, c.from-in-loop-b.ensures, c.in_ok-n.ensures) in
+    (next ∙ ap (λ m. digits_value_after c.args.radix m (drop (i + 1) text)) sum, omega (arith, c.in_ok-n.ensures))
 
 pub returns : goal.returns
 returns c =

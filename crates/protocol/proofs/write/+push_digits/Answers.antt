@@ -6,16 +6,16 @@ use Rattle.std.specs.Char.{digit_char}
 use Rattle.std.specs.Int.Digits.{digits_of}
 use Rattle.protocol.proofs.write.+push_digits.Goals as goal
 
-pub push-digits-requires : goal.push-digits-requires
-push-digits-requires t c = (omega (arith, div-lt_self {n = c.args.n} {k = c.args.base} c.if-n-gt0.true c.requires.low, c.decreases), (c.requires.low, c.requires.high))
+pub push_digits-requires : goal.push_digits-requires
+push_digits-requires t c = (omega (arith, div-lt_self {n = c.args.n} {k = c.args.base} c.if-n-gt0.true c.requires.low, c.decreases), (c.requires.low, c.requires.high))
 
-pub returns-in-ok-push : goal.returns-in-ok-push
-returns-in-ok-push t c =
+pub returns-in_ok-push : goal.returns-in_ok-push
+returns-in_ok-push t c =
     let b = c.args.base in
     let n = c.args.n in
-    let high = c.in-ok-push-digits.ensures in
-    let low = c.in-ok-push.ensures.items in
+    let high = c.in_ok-push_digits.ensures in
+    let low = c.in_ok-push.ensures.items in
     let step = ap (map digit_char) (digits_of_step b n c.requires.low c.if-n-gt0.true) ∙ map_push digit_char (digits_of b (n / b)) (n % b) in
-    let one = c.digit-char.ensures in
+    let one = c.digit_char.ensures in
     let joined = append_assoc (vec_items c.args.line.now) (map digit_char (digits_of b (n / b))) (digit_char (n % b) ∷ []) in
     cc

@@ -9,10 +9,10 @@ loop-b-preserved c =
     let i = c.loop-b.b-index in
     let more = pairs_more bytes (vec_items c.loop-b.line) i c.loop-b-test.true in
     let before = c.loop-b.invariant in
-    let high = c.digit-char.ensures in
-    let low = c.digit-char-in-loop-b.ensures in
-    let first = c.in-ok-push.ensures.items in
-    let second = c.in-ok-push-2.ensures.items in
+    let high = c.digit_char.ensures in
+    let low = c.digit_char-in-loop-b.ensures in
+    let first = c.in_ok-push.ensures.items in
+    let second = c.in_ok-push-2.ensures.items in
     let all : vec_items c.push-in-loop-b.new.self ++ pairs (drop (i + 1) bytes) ≡ vec_items c.args.line.now ++ pairs bytes = cc in
     all
 
