@@ -12,22 +12,22 @@ both : (bs : List ℕ) (r : Option (Instruction × ℕ)) → r ≡ decoded bs �
 both bs r e = record { value = e; back = λ i wide rest w f is. e ∙ ap decoded is ∙ decodes_back i wide rest w f }
 
 pub returns-then-b : goal.returns-then-b
-returns-then-b c = both c.args.bytes.now _ (c.decode-call.ensures ∙ sym (by_call c.args.bytes.now (sym c.byte-at-b.ensures ∙ c.if-b.true)))
+returns-then-b c = both c.args.bytes.now _ (c.decode_call.ensures ∙ sym (by_call c.args.bytes.now (sym c.byte_at-b.ensures ∙ c.if-b.true)))
 
 pub returns-then-b-eq65 : goal.returns-then-b-eq65
 returns-then-b-eq65 c =
-    both c.args.bytes.now _ (c.with-length.ensures ∙ ap (λ i. ending i 2) (c.upper-form.ensures ∙ ap upper_plain c.byte-at.ensures) ∙ sym (by_upper c.args.bytes.now (sym c.byte-at-b.ensures ∙ c.if-b-eq65.true)))
+    both c.args.bytes.now _ (c.with_length.ensures ∙ ap (λ i. ending i 2) (c.upper_form.ensures ∙ ap upper_plain c.byte_at.ensures) ∙ sym (by_upper c.args.bytes.now (sym c.byte_at-b.ensures ∙ c.if-b-eq65.true)))
 
 pub returns-then-b-lt72 : goal.returns-then-b-lt72
 returns-then-b-lt72 c =
     let bs = c.args.bytes.now in
-    let here = c.byte-at-b.ensures in
+    let here = c.byte_at-b.ensures in
     let out : (get_or bs 0 0 < 72) ⊎ (80 ≤ get_or bs 0 0) = ⊎_elim (λ h. inl (omega arith)) (λ h. inr (omega arith)) c.then-b-lt72.either in
-    both bs _ (c.with-length-then-b-lt72.ensures ∙ ap (λ i. ending i 1) (c.plain-form.ensures ∙ ap plain here)
+    both bs _ (c.with_length-then-b-lt72.ensures ∙ ap (λ i. ending i 1) (c.plain_form.ensures ∙ ap plain here)
     ∙ sym (by_plain bs (λ e. c.if-b.false (here ∙ e)) (λ e. c.if-b-eq65.false (here ∙ e)) out))
 
 pub returns : goal.returns
 returns c =
     let bs = c.args.bytes.now in
-    let here = c.byte-at-b.ensures in
-    both bs _ (c.decode-rex.ensures ∙ ap (λ b. rexed (b - 72) bs) here ∙ sym (by_rex bs (omega arith) (omega arith)))
+    let here = c.byte_at-b.ensures in
+    both bs _ (c.decode_rex.ensures ∙ ap (λ b. rexed (b - 72) bs) here ∙ sym (by_rex bs (omega arith) (omega arith)))
