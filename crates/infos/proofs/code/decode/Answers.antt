@@ -7,6 +7,6 @@ use Rattle.infos.proofs.code.decode.Goals as goal
 pub returns : goal.returns
 returns c =
     record {
-      value = simp (c.decode-first.ensures.value, take_rest) (grind (arith, nat_tests));
-      within = IfOk-weaker _ _ (λ p. (1 ≤ p.1) × (2 * (c.args.slot + p.1) ≤ length c.args.slots.now)) (λ p h. (h.0, omega (arith, simp (take_rest, length-drop) at h.1))) c.decode-first.ensures.within;
+      value = simp (c.decode_first.ensures.value, take_rest) (grind (arith, nat_tests));
+      within = IfOk-weaker _ _ (λ p. (1 ≤ p.1) × (2 * (c.args.slot + p.1) ≤ length c.args.slots.now)) (λ p h. (h.0, omega (arith, simp (take_rest, length-drop) at h.1))) c.decode_first.ensures.within;
     }

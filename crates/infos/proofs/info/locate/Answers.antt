@@ -4,4 +4,4 @@ use Rattle.std.proofs.lemmas.Bool.Decides.{nat_tests}
 use Rattle.infos.proofs.info.locate.Goals as goal
 
 pub returns : goal.returns
-returns c = simp (c.read-header.ensures, take_rest) (grind (arith, nat_tests))
+returns c = simp (c.read_header.ensures, take_rest) (grind (arith, nat_tests))

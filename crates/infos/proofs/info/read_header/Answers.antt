@@ -6,4 +6,4 @@ use Rattle.infos.proofs.info.read_header.Goals as goal
 pub returns : goal.returns
 returns c =
     let size : 4 + 2 * get_or c.args.bytes.now 2 0 - 4 ≡ 2 * get_or c.args.bytes.now 2 0 = omega arith in
-    simp (size, c.read-tail.ensures, take_rest, c.padded-count.ensures) (grind (arith, nat_tests))
+    simp (size, c.read_tail.ensures, take_rest, c.padded_count.ensures) (grind (arith, nat_tests))

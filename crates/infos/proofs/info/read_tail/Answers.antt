@@ -3,5 +3,5 @@ use Rattle.std.proofs.lemmas.List.{take_rest}
 use Rattle.std.proofs.lemmas.Bool.Decides.{nat_tests}
 use Rattle.infos.proofs.info.read_tail.Goals as goal
 
-pub returns-in-default : goal.returns-in-default
-returns-in-default c = simp (take_rest, c.u32-at.ensures) (grind (arith, nat_tests))
+pub returns-in_default : goal.returns-in_default
+returns-in_default c = simp (take_rest, c.u32_at.ensures) (grind (arith, nat_tests))

@@ -15,13 +15,13 @@ use Rattle.infos.proofs.listing.append_codes.Goals as goal
 pub loop-slot-init : goal.loop-slot-init
 loop-slot-init c = (omega arith, refl, (_, [], sym c.new-list.ensures.len, start _ _ _, ap (λ n. drop n c.new-list.result.records.now) (sym c.new-list.ensures.len)))
 
-pub returns-in-default : goal.returns-in-default
-returns-in-default c =
+pub returns-in_default : goal.returns-in_default
+returns-in_default c =
     let i = c.loop-slot.slot in
     let ss = c.args.slots.now in
     let place = at_place ss i c.loop-slot-test.true in
     let h : 2 ≤ length (drop (2 * i) ss) = omega (arith, length-drop (2 * i) ss) in
-    absurd (all_decode c.loop-slot.invariant.2.3 c.requires.0 h _ (sym place ∙ sym c.in-default.ensures.value))
+    absurd (all_decode c.loop-slot.invariant.2.3 c.requires.0 h _ (sym place ∙ sym c.in_default.ensures.value))
 
 -- a push that is not refused
 taken_by : (n m : ℕ) (r : Result (Unit {0}) NoRecord) → result_map_both (λ x. x) list_number r ≡ cond (ltb n m) (Ok tt) (Err 22) → n < m → is_ok r ≡ true

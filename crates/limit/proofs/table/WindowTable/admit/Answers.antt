@@ -8,11 +8,11 @@ pub insert-requires : goal.insert-requires
 insert-requires c =
     place-fits c.args.self.now.windows c.args.self.now.count _ c.args.window (omega arith) c.place-at.ensures
 
-pub invariant-of-self : goal.invariant-of-self
-invariant-of-self c =
+pub invariant_of-self : goal.invariant_of-self
+invariant_of-self c =
     let t = c.args.self.now in
     let list = grown t.windows t.count _ c.args.window (omega arith) c.place-at.ensures _ c.insert.ensures in
-    ((omega arith, ap in_order list ∙ order_inserted c.args.window (take t.count t.windows) c.if-window.false t.ok.1 (untouched c.args.window t.windows t.count c.if-overlaps.ensures)), tt)
+    record { ok = (omega arith, ap in_order list ∙ order_inserted c.args.window (take t.count t.windows) c.if-window.false t.ok.1 (untouched c.args.window t.windows t.count c.if-overlaps.ensures)) }
 
 pub returns : goal.returns
 returns c =

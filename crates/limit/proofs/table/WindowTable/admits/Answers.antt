@@ -14,4 +14,4 @@ returns-else-self-eq0 c =
     let order : in_order (take (t.count - 0) t.windows) ≡ true = ap (λ n. in_order (take n t.windows)) off ∙ t.ok.1 in
     let some : 0 < length ws = omega (arith, length-take-le t.count t.windows (omega arith)) in
     let finds = c.find.ensures.finds order ∙ ap (λ n. found window_first window_last at (take n t.windows)) off in
-    c.is-some.ensures ∙ ap is_some finds ∙ sym (open_covered ws at some ∙ covered-found ws at)
+    c.is_some.ensures ∙ ap is_some finds ∙ sym (open_covered ws at some ∙ covered-found ws at)
