@@ -9,6 +9,7 @@ mod tables_of;
 
 use crate::demo::show_all;
 use crate::tables_of::show_files;
+use anyhow::anyhow;
 use std::env;
 
 const USAGE: &str = "usage: stackwalk
@@ -30,7 +31,7 @@ fn run(rt: &HostRuntime) -> anyhow::Result<()> {
         (None, None, None, None, None) => show_all(rt),
         (Some(word), Some(table), Some(infos), Some(start), Some(size)) => {
             if word.as_str() != "table" {
-                return Err(USAGE.into());
+                return Err(anyhow!("{USAGE}"));
             }
             show_files(
                 rt,

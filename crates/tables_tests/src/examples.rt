@@ -124,11 +124,11 @@ fn slots_and_handler_data_are_parts_of_the_area(rt: HostRuntime) -> Result<(), F
     ];
     let info = read_info(&area, Rva(0x1ffc), Rva(0x2000))?;
     assert_eq!(rt; info.place, 8);
-    assert_eq!(rt; info.slots, &[0x04, 0x42]);
+    assert_eq!(rt; info.slots, [0x04, 0x42].as_slice());
     match info.tail {
         Tail::Handler { rva, data } => {
             assert_eq!(rt; rva.0, 0x1050);
-            assert_eq!(rt; data, &[0x2a]);
+            assert_eq!(rt; data, [0x2a].as_slice());
             Ok(())
         }
         _ => Err(Fail::new("a handler was expected")),
