@@ -25,7 +25,7 @@ mod words;
 
 // A byte through two limits over any memory: the outer windows first, then the inner ones, then what lies below.
 pub fn byte_through<M: Memory>(pile: &mut Limit<Limit<M>>, at: Address) -> Result<u8, Lacking>
-    ensures answer { result ≡ answer (limited (take pile.old.windows.count pile.old.windows.windows) (limited (take pile.old.below.windows.count pile.old.below.windows.windows) (shows pile.old.below.below)) at.0) at }
+    ensures answer { result ≡ answer (limited (take pile.old.windows.count pile.old.windows.windows) (limited (take pile.old.below.windows.count pile.old.below.windows.windows) (M.shows pile.old.below.below)) at.0) at }
 {
     pile.read(at)
 }

@@ -20,7 +20,7 @@ use x64::instruction::Instruction;
 #[derive(Clone, Copy)]
 pub struct SetFrameStep {
     pub register: u8,
-    pub offset: u32,
+    pub offset: u8,
 }
 
 impl StepKind for SetFrameStep {
@@ -53,7 +53,7 @@ impl StepKind for SetFrameStep {
     fn instruction(&self) -> Instruction {
         Instruction::LeaAtRsp {
             register: self.register,
-            displacement: self.offset,
+            displacement: u32::from(self.offset),
         }
     }
 
