@@ -20,7 +20,7 @@ fn leaving(frame: Option<SetFrameStep>, block: u32) -> Option<Instruction>
     match frame {
         Some(f) => Some(Instruction::LeaRspAtFrame {
             frame: f.register,
-            displacement: block.wrapping_sub(f.offset),
+            displacement: block.wrapping_sub(u32::from(f.offset)),
         }),
         None => {
             if block == 0 {

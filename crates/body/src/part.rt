@@ -34,7 +34,7 @@ fn load(frame: Option<SetFrameStep>, k: SaveStep) -> Instruction
         Some(f) => Instruction::LoadAtFrame {
             register: k.register,
             frame: f.register,
-            displacement: k.offset.wrapping_sub(f.offset),
+            displacement: k.offset.wrapping_sub(u32::from(f.offset)),
         },
     }
 }

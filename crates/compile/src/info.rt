@@ -69,7 +69,7 @@ fn frame_of(frame: Option<SetFrameStep>) -> u8
 {
     match frame {
         None => 0,
-        Some(f) => f.register + (f.offset / 16 * 16) as u8,
+        Some(f) => f.register + f.offset / 16 * 16,
     }
 }
 

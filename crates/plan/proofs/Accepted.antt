@@ -2,14 +2,14 @@
 use Rattle.std.proofs.Common.{◌≡◌, ℕ, ◌+◌, ◌%◌, ◌<◌, ◌≤◌, Bool, true, false, cond, not, ◌&&◌, ◌||◌, eqb, leb, ◌≢◌, List, [], ◌∷◌, ◌++◌, map, length, take, drop, is_ok, Some, Ok, Err, Option, Result, sym, refl, ap, ◌∙◌, subst, ⊎_elim, arith}
 use Rattle.std.specs.Result.{result_map_both}
 use Rattle.std.proofs.lemmas.List.{length-take}
-use Rattle.std.proofs.lemmas.Bool.{false≢true, true≢false, and_parts, leb-true, eqb-true, ne_eqb, cases_eq, or_cases, or_parts, not-true}
+use Rattle.std.proofs.lemmas.Bool.{cond-true, cond-false, lt-ltb, le-ltb, cases_lt, false≢true, true≢false, and_parts, leb-true, eqb-true, ne_eqb, cases_eq, or_cases, or_parts, not-true}
 use Rattle.layout.specs.Registers.{preserved}
 use Rattle.steps.specs.declared.set_frame.SetFrameStep.{SetFrameStep}
 use Rattle.plan.proofs.Passes.{next_ok, owed_good, counts_good, limits_within}
 use Rattle.plan.specs.Functions.{Text, Function, functions_in, functions_of}
 use Rattle.plan.specs.Refusals.{PlanFault, fault}
 use Rattle.plan.specs.Rules.{known, repeated, in_order, number_fits, shape_verdict, step_verdict}
-use Rattle.plan.specs.Steps.{step, step_of, any, pushes, sets_frame, saves_at, block, frame, Sound, AllSound}
+use Rattle.plan.specs.Steps.{step, in_byte, step_of, any, pushes, sets_frame, saves_at, block, frame, Sound, AllSound}
 use Rattle.plan.specs.Verdicts.{steps_verdict, function_verdict, functions_verdict, limits_verdict, steps_counted, plan_verdict}
 use Rattle.plan.specs.declared.step.Step.{Step}
 use Rattle.plan.specs.declared.step.Step.TheVariants.{Push, Allocate, SetFrame, Save}
@@ -39,6 +39,13 @@ kept_not_rsp r p = ne_eqb r 4 (not_kept r 4 refl p)
 
 pub kept_not_zero : (r : ℕ) → preserved r ≡ true → eqb r 0 ≡ false
 kept_not_zero r p = ne_eqb r 0 (not_kept r 0 refl p)
+
+-- an offset that was accepted is what its byte holds
+byte_small : (n : ℕ) → in_byte n ≤ 240 → in_byte n ≡ n
+byte_small n h = ⊎_elim (λ l. cond-true _ _ _ (lt-ltb n 256 l)) (λ g. absurd (too_large (cond-false _ n 255 (le-ltb n 256 g)))) (cases_lt n 256)
+  where
+    too_large : in_byte n ≡ 255 → ⊥
+    too_large e = omega (arith, e, h)
 
 -- the record of a step
 abbrev pub record_of : Step → StepRecord
@@ -140,13 +147,14 @@ module _ (does : Bool) (before : List Step) (b : Before before) where
       let q = and_parts (leb n 2097152) (eqb (n % 8) 0) p.1 in
       (ap (λ x. step 1 x n) (sym (eqb-true r 0 k)), (leb-true 8 n p.0, leb-true n 2097152 q.0, eqb-true (n % 8) 0 q.1))
 
-  frame-owed : (r n : ℕ) → Owed (step 2 r n)
-  frame-owed r n k v =
+  frame_owed : (r n : ℕ) → Owed (step 2 r n)
+  frame_owed r n k v =
       let g = shape_good (repeated before (step_of (step 2 r n))) (in_order before (step_of (step 2 r n))) (number_fits does before (step_of (step 2 r n))) v in
       let i = and_parts (not (any sets_frame before)) (not (eqb r 12) && any (pushes r) before) g.0 in
       let j = and_parts (not (eqb r 12)) (any (pushes r) before) i.1 in
-      let p = and_parts (leb n 240) (eqb (n % 16) 0) g.1 in
-      (refl, (b.1 r j.1, leb-true n 240 p.0, eqb-true (n % 16) 0 p.1, not-true (any sets_frame before) i.0))
+      let p = and_parts (leb (in_byte n) 240) (eqb (in_byte n % 16) 0) g.1 in
+      let small : in_byte n ≤ 240 = leb-true (in_byte n) 240 p.0 in
+      (ap (step 2 r) (byte_small n small), (b.1 r j.1, small, eqb-true (in_byte n % 16) 0 p.1, not-true (any sets_frame before) i.0))
 
   save_owed : (r n : ℕ) → Owed (step 3 r n)
   save_owed r n k v =
@@ -168,7 +176,7 @@ module _ (does : Bool) (before : List Step) (b : Before before) where
   owed r k v =
       ⊎_elim (λ e. of_kind r 0 e (push_owed r.register r.number) k v) (λ x.
       ⊎_elim (λ e. of_kind r 1 e (allocate_owed r.register r.number) k v) (λ y.
-      ⊎_elim (λ e. of_kind r 2 e (frame-owed r.register r.number) k v) (λ z.
+      ⊎_elim (λ e. of_kind r 2 e (frame_owed r.register r.number) k v) (λ z.
       of_kind r 3 (last_kind r x y z k) (save_owed r.register r.number) k v)
       (cases_eq r.kind 2)) (cases_eq r.kind 1)) (cases_eq r.kind 0)
 

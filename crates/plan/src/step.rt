@@ -1,7 +1,7 @@
 // The steps that records of the four kinds mean.
 ghost use Rattle.std.specs.Prelude.{◌≡◌, ℕ, ◌+◌, ◌≤◌, length};
 ghost use Rattle.layout.specs.Words.{overwritten};
-ghost use Rattle.plan.specs.Steps.{step_of, step_instruction, step_code, Sound};
+ghost use Rattle.plan.specs.Steps.{in_byte, step_of, step_instruction, step_code, Sound};
 
 use crate::text::StepRecord;
 use steps::allocate::AllocateStep;
@@ -10,6 +10,13 @@ use steps::push::PushStep;
 use steps::save::SaveStep;
 use steps::set_frame::SetFrameStep;
 use x64::instruction::Instruction;
+
+// A frame offset as its byte holds it: 255, which no check accepts, where it is larger.
+fn in_byte(number: u32) -> u8
+    ensures { result ≡ in_byte number }
+{
+    if number < 256 { number as u8 } else { 255 }
+}
 
 #[derive(Clone, Copy)]
 pub enum Step {
@@ -31,7 +38,7 @@ impl Step {
             1 => Step::Allocate(AllocateStep { size: r.number }),
             2 => Step::SetFrame(SetFrameStep {
                 register: r.register,
-                offset: r.number,
+                offset: in_byte(r.number),
             }),
             _ => Step::Save(SaveStep {
                 register: r.register,

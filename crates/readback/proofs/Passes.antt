@@ -204,7 +204,7 @@ write_more p old ss at l =
 abbrev Short : InfoOf → Type 0
 Short i = length i.slots ≤ 510
 
-header_if : (a b c d : Bool) (i : InfoOf) → Short i → IfOk {Y = ℕ} (cond a (cond b (cond c (cond d (Err 43) (Ok i)) (Err 40)) (Err 42)) (Err 41)) Short
+header_if : (a b c d : Bool) (i : InfoOf) → Short i → IfOk {E = ℕ} (cond a (cond b (cond c (cond d (Err 43) (Ok i)) (Err 40)) (Err 42)) (Err 41)) Short
 header_if true true true true i h = tt
 header_if true true true false i h = h
 header_if true true false d i h = tt

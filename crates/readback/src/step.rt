@@ -64,8 +64,8 @@ pub(crate) fn count_steps(info: Info<'_>) -> Result<usize, ReadRefusal>
 
 // Writes the steps of an info that has some, the last code's first, over the records that end at `end`.
 pub(crate) fn write_steps(info: Info<'_>, records: &mut [StepRecord], end: usize)
-    requires slots_len_bound { (length info.slots.now ≤ 510) × (is_ok (steps_in (viewed info)) ≡ true) }
-    requires info_len_bound { (length (found (steps_in (viewed info))) ≤ end) × (end ≤ length records.old) }
+    requires readable { (length info.slots.now ≤ 510) × (is_ok (steps_in (viewed info)) ≡ true) }
+    requires room { (length (found (steps_in (viewed info))) ≤ end) × (end ≤ length records.old) }
     ensures { records.new ≡ take (end - length (found (steps_in (viewed info.entry)))) records.old ++ (found (steps_in (viewed info.entry)) ++ drop end records.old) }
 {
     let slots = info.slots;

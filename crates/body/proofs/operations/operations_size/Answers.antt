@@ -5,8 +5,8 @@ use Rattle.body.proofs.operations.operations_size.Goals as goal
 
 pub loop-o-preserved : goal.loop-o-preserved
 loop-o-preserved c =
-    let e = sized_one _ _ _ c.loop-o-test.true _ c.of.ensures _ c.instruction-of.ensures in
-    (omega (arith, e, c.loop-o.invariant.0, c.encoded-length-n.ensures.length), omega (arith, c.loop-o.invariant.1, c.encoded-length-n.ensures.bound))
+    let e = sized_one _ _ _ c.loop-o-test.true _ c.of.ensures _ c.instruction_of.ensures in
+    (omega (arith, e, c.loop-o.invariant.0, c.encoded_length-n.ensures.length), omega (arith, c.loop-o.invariant.1, c.encoded_length-n.ensures.bound))
 
 pub returns : goal.returns
 returns c =

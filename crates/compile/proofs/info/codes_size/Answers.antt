@@ -6,7 +6,7 @@ use Rattle.compile.proofs.info.codes_size.Goals as goal
 pub loop-s-preserved : goal.loop-s-preserved
 loop-s-preserved c =
     let e = coded_one _ _ _ c.loop-s-test.true _ c.of.ensures in
-    (omega (arith, e, c.loop-s.invariant.0, c.code-size-n.ensures.size 0), omega (arith, c.loop-s.invariant.1, c.code-size-n.ensures.bound))
+    (omega (arith, e, c.loop-s.invariant.0, c.code_size-n.ensures.size 0), omega (arith, c.loop-s.invariant.1, c.code_size-n.ensures.bound))
 
 pub returns : goal.returns
 returns c =

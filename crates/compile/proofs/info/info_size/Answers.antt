@@ -5,5 +5,5 @@ use Rattle.compile.proofs.info.info_size.Goals as goal
 
 pub returns : goal.returns
 returns c =
-    let e = info_length (map step_of c.args.steps.now) _ c.codes-size-size.ensures.size in
-    record { size = omega (arith, e, c.pad-size.ensures.size); bound = omega (arith, c.codes-size-size.ensures.bound, c.pad-size.ensures.bound) }
+    let e = info_length (map step_of c.args.steps.now) _ c.codes_size-size.ensures.size in
+    record { size = omega (arith, e, c.pad_size.ensures.size); bound = omega (arith, c.codes_size-size.ensures.bound, c.pad_size.ensures.bound) }

@@ -17,23 +17,23 @@ loop-i-init c =
       c.requires.1.1.0,
     )
 
-pub write-code-end-requires : goal.write-code-end-requires
-write-code-end-requires c =
+pub write_code-end-requires : goal.write_code-end-requires
+write_code-end-requires c =
     let e = codes_last _ _ _ c.loop-i.invariant.1 c.loop-i-test.true _ c.of-step.ensures _ c.loop-i.invariant.2 in
     (subst Sound (sym c.of-step.ensures) (sound_at _ _ _ (omega (arith, c.loop-i.invariant.1, c.loop-i-test.true)) c.requires.0), room _ _ (recast c.loop-i.invariant.0 e))
 
-pub overflow-sub-offset : goal.overflow-sub-offset
-overflow-sub-offset c =
+pub overflow_sub-offset : goal.overflow_sub-offset
+overflow_sub-offset c =
     let o = offset_last _ _ _ c.loop-i.invariant.1 c.loop-i-test.true _ c.of-step.ensures in
-    let n = c.encoded-length-offset.ensures.length ∙ ap (λ i. length (encode i)) c.instruction.ensures in
+    let n = c.encoded_length-offset.ensures.length ∙ ap (λ i. length (encode i)) c.instruction.ensures in
     omega (arith, o, n, c.loop-i.invariant.2)
 
 pub loop-i-preserved : goal.loop-i-preserved
 loop-i-preserved c =
     let e = codes_last _ _ _ c.loop-i.invariant.1 c.loop-i-test.true _ c.of-step.ensures _ c.loop-i.invariant.2 in
     let o = offset_last _ _ _ c.loop-i.invariant.1 c.loop-i-test.true _ c.of-step.ensures in
-    let n = c.encoded-length-offset.ensures.length ∙ ap (λ i. length (encode i)) c.instruction.ensures in (
-      write _ _ (recast c.loop-i.invariant.0 e) _ _ c.write-code-end.ensures.after c.write-code-end.ensures.end,
+    let n = c.encoded_length-offset.ensures.length ∙ ap (λ i. length (encode i)) c.instruction.ensures in (
+      write _ _ (recast c.loop-i.invariant.0 e) _ _ c.write_code-end.ensures.after c.write_code-end.ensures.end,
       omega (arith, c.loop-i.invariant.1),
       omega (arith, o, n, c.loop-i.invariant.2),
       omega (arith, c.loop-i.invariant.3),

@@ -8,6 +8,6 @@ pub returns : goal.returns
 returns c =
     let e = take-replicate {X = ℕ} c.args.size 16 204 c.requires.0 in
     record {
-      after = c.copy-at.ensures.after ∙ ap (overwritten c.args.out.now c.args.at) e;
-      end = c.copy-at.ensures.end ∙ ap (λ l. c.args.at + length l) e ∙ ap (λ n. c.args.at + n) (length-replicate {A = ℕ} c.args.size 204);
+      after = c.copy_at.ensures.after ∙ ap (overwritten c.args.out.now c.args.at) e;
+      end = c.copy_at.ensures.end ∙ ap (λ l. c.args.at + length l) e ∙ ap (λ n. c.args.at + n) (length-replicate {A = ℕ} c.args.size 204);
     }

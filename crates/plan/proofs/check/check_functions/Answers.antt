@@ -14,36 +14,36 @@ own n k s o {rs = rs} {os = os} a b = ap (λ l. function_verdict n k s o (record
 pub loop-k-init : goal.loop-k-init
 loop-k-init c = (refl, omega arith, lists_start _ _ _ c.requires)
 
-pub part-own-steps-requires : goal.part-own-steps-requires
-part-own-steps-requires c = (lists_fit _ _ _ _ _ _ _ c.loop-k-test.true c.loop-k.invariant.2).0
+pub part-own_steps-requires : goal.part-own_steps-requires
+part-own_steps-requires c = (lists_fit _ _ _ _ _ _ _ c.loop-k-test.true c.loop-k.invariant.2).0
 
-pub part-own-operations-requires : goal.part-own-operations-requires
-part-own-operations-requires c = (lists_fit _ _ _ _ _ _ _ c.loop-k-test.true c.loop-k.invariant.2).1
+pub part-own_operations-requires : goal.part-own_operations-requires
+part-own_operations-requires c = (lists_fit _ _ _ _ _ _ _ c.loop-k-test.true c.loop-k.invariant.2).1
 
-pub check-function-requires : goal.check-function-requires
-check-function-requires c =
+pub check_function-requires : goal.check_function-requires
+check_function-requires c =
     let fit = lists_fit _ _ _ _ _ _ _ c.loop-k-test.true c.loop-k.invariant.2 in
-    let a : length c.part-own-steps.result.now ≡ (get_or c.args.counts.now c.loop-k.k _).steps = ap length c.part-own-steps.ensures ∙ length_part _ _ _ fit.0 in
-    let b : length c.part-own-operations.result.now ≡ (get_or c.args.counts.now c.loop-k.k _).operations = ap length c.part-own-operations.ensures ∙ length_part _ _ _ fit.1 in
+    let a : length c.part-own_steps.result.now ≡ (get_or c.args.counts.now c.loop-k.k _).steps = ap length c.part-own_steps.ensures ∙ length_part _ _ _ fit.0 in
+    let b : length c.part-own_operations.result.now ≡ (get_or c.args.counts.now c.loop-k.k _).operations = ap length c.part-own_operations.ensures ∙ length_part _ _ _ fit.1 in
     let long : length c.args.steps.now < 2 ^ 64 = search rules in
     let wide : length c.args.operations.now < 2 ^ 64 = search rules in
     (omega (arith, fit.2, a), (omega (arith, fit.0, a, long), omega (arith, fit.1, b, wide)))
 
-pub returns-in-err-check-function : goal.returns-in-err-check-function
-returns-in-err-check-function c =
-    let p = err_from_is_err_and c.from-residual.result c.from-residual.ensures.1 in
+pub returns-in_err-check_function : goal.returns-in_err-check_function
+returns-in_err-check_function c =
+    let p = err_from_is_err_and c.from_residual.result c.from_residual.ensures.1 in
     let fit = lists_fit _ _ _ _ _ _ _ c.loop-k-test.true c.loop-k.invariant.2 in
-    let said = c.in-err-check-function.ensures ∙ own _ _ _ _ c.part-own-steps.ensures c.part-own-operations.ensures in
+    let said = c.in_err-check_function.ensures ∙ own _ _ _ _ c.part-own_steps.ensures c.part-own_operations.ensures in
     rw (p.1, p.2) (sym (c.loop-k.invariant.0 ∙ stopped _ _ (functions_one _ _ _ _ _ _ _ _ c.loop-k-test.true fit.0 fit.1) (sym said)))
 
-pub overflow-add-s : goal.overflow-add-s
-overflow-add-s c =
+pub overflow_add-s : goal.overflow_add-s
+overflow_add-s c =
     let fit = lists_fit c.args.counts.now c.args.steps.now c.args.operations.now c.loop-k.k c.loop-k.s c.loop-k.o (record { steps = 0; operations = 0 }) c.loop-k-test.true c.loop-k.invariant.2 in
     let long : length c.args.steps.now < 2 ^ 64 = search rules in
     record { fits = omega (arith, fit.0, c.from-s.ensures, long) }
 
-pub overflow-add-o : goal.overflow-add-o
-overflow-add-o c =
+pub overflow_add-o : goal.overflow_add-o
+overflow_add-o c =
     let fit = lists_fit c.args.counts.now c.args.steps.now c.args.operations.now c.loop-k.k c.loop-k.s c.loop-k.o (record { steps = 0; operations = 0 }) c.loop-k-test.true c.loop-k.invariant.2 in
     let wide : length c.args.operations.now < 2 ^ 64 = search rules in
     record { fits = omega (arith, fit.1, c.from-o.ensures, wide) }
@@ -51,7 +51,7 @@ overflow-add-o c =
 pub loop-k-preserved : goal.loop-k-preserved
 loop-k-preserved c =
     let fit = lists_fit _ _ _ _ _ _ _ c.loop-k-test.true c.loop-k.invariant.2 in
-    let said = c.in-ok-check-function.ensures ∙ own _ _ _ _ c.part-own-steps.ensures c.part-own-operations.ensures in
+    let said = c.in_ok-check_function.ensures ∙ own _ _ _ _ c.part-own_steps.ensures c.part-own_operations.ensures in
     let more = lists_on _ _ _ _ _ _ _ c.loop-k-test.true c.loop-k.invariant.2 in
     rw (c.from-s.ensures, c.from-o.ensures) (c.loop-k.invariant.0 ∙ passed _ (functions_one _ _ _ _ _ _ _ _ c.loop-k-test.true fit.0 fit.1) (sym said), omega (arith, c.loop-k-test.true), more)
 

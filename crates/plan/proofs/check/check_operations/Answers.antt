@@ -6,15 +6,15 @@ use Rattle.plan.specs.Verdicts.{operations_verdict, owed}
 use Rattle.plan.proofs.Passes.{operations_one, stopped, passed}
 use Rattle.plan.proofs.check.check_operations.Goals as goal
 
-pub returns-in-err-owe : goal.returns-in-err-owe
-returns-in-err-owe c =
-    let p = err_from_is_err_and c.from-residual.result c.from-residual.ensures.1 in
-    let said = c.in-err-owe.ensures ∙ ap (λ b. owed b 17 (c.args.index + c.loop-i.i)) c.is-operation-good.ensures in
+pub returns-in_err-owe : goal.returns-in_err-owe
+returns-in_err-owe c =
+    let p = err_from_is_err_and c.from_residual.result c.from_residual.ensures.1 in
+    let said = c.in_err-owe.ensures ∙ ap (λ b. owed b 17 (c.args.index + c.loop-i.i)) c.is_operation-good.ensures in
     rw (p.1, p.2) (sym (c.loop-i.invariant.0 ∙ stopped _ _ (operations_one _ _ _ _ _ _ c.loop-i-test.true) (sym said)))
 
 pub loop-i-preserved : goal.loop-i-preserved
 loop-i-preserved c =
-    let said = c.in-ok-owe.ensures ∙ ap (λ b. owed b 17 (c.args.index + c.loop-i.i)) c.is-operation-good.ensures in
+    let said = c.in_ok-owe.ensures ∙ ap (λ b. owed b 17 (c.args.index + c.loop-i.i)) c.is_operation-good.ensures in
     (c.loop-i.invariant.0 ∙ passed _ (operations_one _ _ _ _ _ _ c.loop-i-test.true) (sym said), omega (arith, c.loop-i-test.true))
 
 pub returns : goal.returns

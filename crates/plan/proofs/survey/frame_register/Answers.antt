@@ -7,7 +7,7 @@ pub returns-in-SetFrame : goal.returns-in-SetFrame
 returns-in-SetFrame c = sym (c.loop-s.invariant ∙ frame_stop _ _ _ c.loop-s-test.true _ c.of.ensures c.in-SetFrame.k c.in-SetFrame.is)
 
 pub loop-s-preserved : goal.loop-s-preserved
-loop-s-preserved c = c.loop-s.invariant ∙ frame_on _ _ _ c.loop-s-test.true _ c.of.ensures c.in-default.not-SetFrame
+loop-s-preserved c = c.loop-s.invariant ∙ frame_on _ _ _ c.loop-s-test.true _ c.of.ensures c.in_default.not-SetFrame
 
 pub returns : goal.returns
 unfolding frame

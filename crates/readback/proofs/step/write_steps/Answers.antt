@@ -10,46 +10,46 @@ use Rattle.readback.proofs.step.write_steps.Goals as goal
 pub loop-slot-init : goal.loop-slot-init
 loop-slot-init c = (omega arith, (_, [], [], omega arith, start _ _ _, no_steps _ _, sym (take-append-drop c.args.end c.args.records.now)))
 
-pub returns-in-default : goal.returns-in-default
-returns-in-default c =
+pub returns-in_default : goal.returns-in_default
+returns-in_default c =
     let i = c.loop-slot.slot in
     let ss = c.args.info.slots.now in
     let h : 2 ≤ length (drop (2 * i) ss) = omega (arith, length-drop (2 * i) ss) in
-    absurd (all_decode c.loop-slot.invariant.1.4 (codes_good _ _ c.requires.0.1) h _ (sym (at_place ss i c.loop-slot-test.true) ∙ sym c.in-default.ensures.value))
+    absurd (all_decode c.loop-slot.invariant.1.4 (codes_good _ _ c.requires.readable.1) h _ (sym (at_place ss i c.loop-slot-test.true) ∙ sym c.in_default.ensures.value))
 
-pub step-of-requires : goal.step-of-requires
-step-of-requires c =
+pub step_of-requires : goal.step_of-requires
+step_of-requires c =
     let i = c.loop-slot.slot in
     let ss = c.args.info.slots.now in
     let e : c.in-Ok.code.slot ≡ i = decoded-slot i (drop (2 * i) ss) c.in-Ok.code c.in-Ok.used (sym (at_place ss i c.loop-slot-test.true) ∙ sym c.in-Ok.ensures.value) in
-    omega (arith, e, c.requires.0.0)
+    omega (arith, e, c.requires.readable.0)
 
-pub returns-in-default-step-of : goal.returns-in-default-step-of
-returns-in-default-step-of c =
+pub returns-in_default-step_of : goal.returns-in_default-step_of
+returns-in_default-step_of c =
     let i = c.loop-slot.slot in
     let inv = c.loop-slot.invariant.1 in
     let ss = c.args.info.slots.now in
     let said = c.in-Ok.ensures in
     let h : 2 ≤ length (drop (2 * i) ss) = omega (arith, length-drop (2 * i) ss) in
-    absurd (is_step inv.4 _ _ c.requires.0.1 inv.2 inv.5 h _ _ said.within.0 (sym (at_place ss i c.loop-slot-test.true) ∙ sym said.value) _ (sym c.in-default-step-of.ensures))
+    absurd (is_step inv.4 _ _ c.requires.readable.1 inv.2 inv.5 h _ _ said.within.0 (sym (at_place ss i c.loop-slot-test.true) ∙ sym said.value) _ (sym c.in_default-step_of.ensures))
 
-pub overflow-sub-at : goal.overflow-sub-at
-overflow-sub-at c =
+pub overflow_sub-at : goal.overflow_sub-at
+overflow_sub-at c =
     let i = c.loop-slot.slot in
     let inv = c.loop-slot.invariant.1 in
     let ss = c.args.info.slots.now in
     let said = c.in-Ok.ensures in
     let h : 2 ≤ length (drop (2 * i) ss) = omega (arith, length-drop (2 * i) ss) in
-    let more = one_more inv.4 _ _ c.requires.0.1 inv.2 inv.5 h _ _ said.within.0 (sym (at_place ss i c.loop-slot-test.true) ∙ sym said.value) _ (sym c.in-Ok-step-of.ensures) in
+    let more = one_more inv.4 _ _ c.requires.readable.1 inv.2 inv.5 h _ _ said.within.0 (sym (at_place ss i c.loop-slot-test.true) ∙ sym said.value) _ (sym c.in-Ok-step_of.ensures) in
     let few : length inv.2 + 1 ≤ length (found (steps_in (viewed c.args.info))) = more.3 in
-    omega (arith, few, inv.3, c.requires.1.0)
+    omega (arith, few, inv.3, c.requires.room.0)
 
 pub bounds-records-at : goal.bounds-records-at
 bounds-records-at c =
     let inv = c.loop-slot.invariant.1 in
     let size : length c.loop-slot.records ≡ length c.args.records.now = search rules in
-    let more : 1 ≤ c.loop-slot.at = overflow-sub-at c in
-    omega (arith, more, inv.3, c.requires.1.1, size)
+    let more : 1 ≤ c.loop-slot.at = overflow_sub-at c in
+    omega (arith, more, inv.3, c.requires.room.1, size)
 
 pub loop-slot-preserved : goal.loop-slot-preserved
 loop-slot-preserved c =
@@ -58,12 +58,12 @@ loop-slot-preserved c =
     let ss = c.args.info.slots.now in
     let said = c.in-Ok.ensures in
     let h : 2 ≤ length (drop (2 * i) ss) = omega (arith, length-drop (2 * i) ss) in
-    let more = one_more inv.4 _ _ c.requires.0.1 inv.2 inv.5 h _ _ said.within.0 (sym (at_place ss i c.loop-slot-test.true) ∙ sym said.value) _ (sym c.in-Ok-step-of.ensures) in
+    let more = one_more inv.4 _ _ c.requires.readable.1 inv.2 inv.5 h _ _ said.within.0 (sym (at_place ss i c.loop-slot-test.true) ∙ sym said.value) _ (sym c.in-Ok-step_of.ensures) in
     let at = c.loop-slot.at in
     let old = c.args.records.now in
-    let step = c.in-Ok-step-of.step in
-    let some : 1 ≤ at = overflow-sub-at c in
-    let below : at ≤ length old = omega (arith, inv.3, c.requires.1.1) in
+    let step = c.in-Ok-step_of.step in
+    let some : 1 ≤ at = overflow_sub-at c in
+    let below : at ≤ length old = omega (arith, inv.3, c.requires.room.1) in
     let put = put_before old (inv.2 ++ drop c.args.end old) (at - 1) at step (omega arith) below in (
       said.within.1,
       (more.0, inv.1 ++ c.in-Ok.code ∷ [], step ∷ inv.2, omega (arith, inv.3, some), further ss i c.in-Ok.used more.1, more.2, ap (λ l. set l (at - 1) step) inv.6 ∙ put),

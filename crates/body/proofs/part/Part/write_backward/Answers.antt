@@ -22,7 +22,7 @@ loop-i-preserved-in-Some c =
 
 pub loop-i-preserved : goal.loop-i-preserved
 loop-i-preserved c =
-    let e = backward_skip _ _ _ c.loop-i.invariant.1 c.loop-i-test.true _ c.of.ensures (of_part c.args.self) c.in-default.ensures in
+    let e = backward_skip _ _ _ c.loop-i.invariant.1 c.loop-i-test.true _ c.of.ensures (of_part c.args.self) c.in_default.ensures in
     (recast c.loop-i.invariant.0 e, omega (arith, c.loop-i.invariant.1))
 
 pub returns : goal.returns
