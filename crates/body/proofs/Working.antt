@@ -1,15 +1,14 @@
 -- The operations of a body, and a function by its parts.
-use Rattle.std.proofs.Common.{◌≡◌, ℕ, ◌+◌, ◌*◌, ◌^◌, ◌<◌, ◌≤◌, List, [], ◌∷◌, ◌++◌, map, length, get_or, drop, Option, sym, refl, ap, ◌∙◌, arith}
-use Rattle.std.proofs.lemmas.List.{length-append, append-nil, at_drop_more, at_drop_all}
+use Rattle.std.proofs.Common.{◌≡◌, ℕ, ◌+◌, ◌^◌, ◌<◌, ◌≤◌, List, [], ◌∷◌, ◌++◌, map, length, get_or, drop, Option, sym, refl, ap, ◌∙◌, arith}
+use Rattle.std.proofs.lemmas.List.{length-append, at_drop_more, at_drop_all}
 use Rattle.x64.specs.Encodings.{encode}
 use Rattle.x64.specs.declared.instruction.Instruction.{Instruction}
 use Rattle.x64.specs.declared.instruction.Instruction.TheVariants.{Ret}
-use Rattle.plan.specs.Bodies.{bytes, forward, backward, enter, entering, operation_instruction, work, loading, leave_by, popping, leave, instructions, steps_of, function_bytes, function_size}
+use Rattle.plan.specs.Bodies.{bytes, forward, backward, enter, operation_instruction, work, loading, leave_by, popping, leave, steps_of, function_bytes, function_size}
 use Rattle.plan.specs.Functions.{Function}
 use Rattle.plan.specs.Operations.{operation_of}
-use Rattle.plan.specs.Steps.{step_of, block, frame}
+use Rattle.plan.specs.Steps.{block, frame}
 use Rattle.plan.specs.declared.operation.Operation.{Operation}
-use Rattle.plan.specs.declared.operation.Operation.TheVariants.{Nop, Set, Reserve, Call}
 use Rattle.plan.specs.declared.step.Step.{Step}
 use Rattle.plan.specs.declared.text.OperationRecord.{OperationRecord}
 use Rattle.steps.specs.declared.set_frame.SetFrameStep.{SetFrameStep}

@@ -1,19 +1,12 @@
 -- An info is small.
-use Rattle.std.proofs.Common.{◌≡◌, ℕ, suc, ◌+◌, ◌*◌, ◌%◌, ◌≤◌, Bool, true, false, cond, not, eqb, ltb, leb, List, [], ◌∷◌, ◌++◌, map, length, Some, None, Option, sym, refl, ap, ◌∙◌, arith}
-use Rattle.std.proofs.lemmas.List.{length-append, length-map}
-use Rattle.x64.specs.Encodings.{short, low, four, encode_as, displacement_of, encode}
-use Rattle.x64.specs.declared.instruction.Instruction.{Instruction}
-use Rattle.x64.specs.declared.instruction.Instruction.TheVariants.{Push as PushRegister, Pop, SubRsp, AddRsp, StoreAtRsp, LoadAtRsp, LeaAtRsp, StoreAtFrame, LoadAtFrame, LeaRspAtFrame, Set as SetRegister, Nop as DoNothing, Call as CallBy, Ret}
-use Rattle.steps.specs.declared.set_frame.SetFrameStep.{SetFrameStep}
+use Rattle.std.proofs.Common.{◌≡◌, ℕ, ◌*◌, ◌%◌, ◌≤◌, Bool, true, false, cond, eqb, leb, List, [], ◌∷◌, map, length, refl, arith}
+use Rattle.std.proofs.lemmas.List.{length-map}
+use Rattle.x64.specs.Encodings.{four}
 use Rattle.steps.specs.Kinds.{two}
-use Rattle.plan.specs.Bodies.{bytes, forward, backward, enter, entering, operation_instruction, work, loading, leave_by, popping, leave, instructions, steps_of, function_bytes, function_size}
-use Rattle.plan.specs.Functions.{Function}
-use Rattle.plan.specs.Operations.{operation_of}
-use Rattle.plan.specs.Steps.{step_of, step_code, block, frame}
+use Rattle.plan.specs.Steps.{step_of, step_code}
 use Rattle.plan.specs.UnwindInfos.{codes, info_bytes}
 use Rattle.plan.specs.declared.text.StepRecord.{StepRecord}
 use Rattle.compile.proofs.Coding.{coded, codes_coded, info_length}
-use Rattle.plan.specs.declared.operation.Operation.{Operation}
 use Rattle.plan.specs.declared.step.Step.{Step}
 use Rattle.plan.specs.declared.step.Step.TheVariants.{Push, Allocate, SetFrame, Save}
 

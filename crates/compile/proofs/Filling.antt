@@ -1,20 +1,20 @@
 -- A module written function by function.
-use Rattle.std.proofs.Common.{◌≡◌, ℕ, ◌+◌, ◌-◌, ◌*◌, ◌^◌, ◌<◌, ◌≤◌, false, List, [], ◌∷◌, ◌++◌, map, length, get_or, take, drop, replicate, Ok, sym, refl, ap, ◌∙◌, subst, arith}
+use Rattle.std.proofs.Common.{◌≡◌, ℕ, ◌+◌, ◌-◌, ◌*◌, ◌^◌, ◌<◌, ◌≤◌, false, List, ◌∷◌, ◌++◌, map, length, get_or, take, drop, replicate, Ok, sym, ap, ◌∙◌, subst, arith}
 use lib.ListN.{length-replicate}
 use Rattle.layout.specs.Words.{overwritten}
-use Rattle.plan.specs.Bodies.{steps_of, function_bytes, function_size}
+use Rattle.plan.specs.Bodies.{function_bytes, function_size}
 use Rattle.plan.specs.Functions.{Function, functions_in}
-use Rattle.plan.specs.Layouts.{up, starts, starts_from, gap, code, code_from, infos, entry, table, table_from, info_start}
+use Rattle.plan.specs.Layouts.{up, code, code_from, infos, entry, table, table_from, info_start}
 use Rattle.plan.specs.Steps.{AllSound, step_of, frame}
 use Rattle.plan.specs.UnwindInfos.{info_bytes}
-use Rattle.plan.specs.Verdicts.{next, calls, steps_verdict, function_verdict, functions_verdict}
+use Rattle.plan.specs.Verdicts.{functions_verdict}
 use Rattle.plan.specs.declared.text.Counts.{Counts}
 use Rattle.plan.specs.declared.text.OperationRecord.{OperationRecord}
 use Rattle.plan.specs.declared.text.StepRecord.{StepRecord}
 use Rattle.plan.proofs.Passes.{InLists, lists_start, lists_fit, length_part, functions_one, next_ok}
 use Rattle.plan.proofs.Accepted.{function_good, all_sound}
 use Rattle.plan.proofs.Sizes.{same_size, few_bytes}
-use Rattle.body.proofs.Writing.{Rest, begin as rest-begin, recast, room, write, last, ended}
+use Rattle.body.proofs.Writing.{Rest, begin as rest-begin, recast, room, write, ended}
 use Rattle.compile.specs.Writables.{Writable}
 use Rattle.compile.proofs.Bounds.{info_at_most}
 use Rattle.compile.proofs.Laying.{up_fits, code-cons, infos-cons, table-cons, left, left_cons, lists_to, no_left, nothing_left}

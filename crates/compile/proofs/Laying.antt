@@ -1,5 +1,5 @@
 -- The functions of a module, one after another.
-use Rattle.std.proofs.Common.{◌≡◌, ℕ, ◌+◌, ◌-◌, ◌*◌, ◌/◌, ◌<◌, ◌≤◌, List, [], ◌∷◌, ◌++◌, map, length, get_or, take, drop, set, replicate, sym, refl, ap, ◌∙◌, arith}
+use Rattle.std.proofs.Common.{◌≡◌, ℕ, ◌+◌, ◌-◌, ◌*◌, ◌<◌, ◌≤◌, List, [], ◌∷◌, ◌++◌, map, length, get_or, take, drop, set, sym, refl, ap, ◌∙◌, arith}
 use lib.ListN.{length-replicate}
 use Rattle.std.proofs.lemmas.List.{length-append, append_assoc, append-nil, at_drop_all, take_more_set, length-set}
 use Rattle.plan.specs.Bodies.{steps_of, function_bytes, function_size}

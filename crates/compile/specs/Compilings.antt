@@ -1,8 +1,8 @@
 -- What compiling answers.
-use Rattle.std.specs.Prelude.{ℕ, cond, List, length, Ok, Err, Result, nat_le}
+use Rattle.std.specs.Prelude.{ℕ, List, length, Ok, Err, Result, nat_le}
 use Rattle.plan.specs.Functions.{Text, Function, functions_of}
 use Rattle.plan.specs.Layouts.{code, infos, table}
-use Rattle.plan.specs.Refusals.{PlanFault, fault}
+use Rattle.plan.specs.Refusals.{PlanFault}
 use Rattle.plan.specs.Verdicts.{Verdict, next, owed, plan_verdict}
 use Rattle.compile.specs.declared.lengths.Lengths.{Lengths}
 

@@ -5,7 +5,6 @@ use Rattle.x64.specs.declared.instruction.Instruction.{Instruction}
 use Rattle.x64.specs.declared.instruction.Instruction.TheVariants.{Push, Pop, SubRsp, AddRsp, StoreAtRsp, LoadAtRsp, LeaAtRsp, StoreAtFrame, LoadAtFrame, LeaRspAtFrame, Set, Nop, Call, Ret}
 use Rattle.cpu.specs.declared.intent.Access.{Access}
 use Rattle.cpu.specs.declared.intent.Access.TheVariants as access
-use Rattle.cpu.specs.declared.intent.Change.{Change}
 use Rattle.cpu.specs.declared.intent.Change.TheVariants as change
 use Rattle.cpu.specs.declared.intent.Intent.{Intent}
 

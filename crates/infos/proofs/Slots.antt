@@ -1,11 +1,10 @@
 -- A loop over codes: what is left of the slots gives what is left of the answer.
-use Rattle.std.proofs.Common.{◌≡◌, ℕ, zero, suc, ◌+◌, ◌*◌, ◌/◌, ◌<◌, ◌≤◌, true, false, List, [], ◌∷◌, ◌++◌, length, drop, is_ok, Ok, Err, Result, sym, refl, ap, ◌∙◌, subst, arith}
-use Rattle.std.specs.Result.{result_map_both}
+use Rattle.std.proofs.Common.{◌≡◌, ℕ, zero, suc, ◌+◌, ◌*◌, ◌/◌, ◌<◌, ◌≤◌, true, List, [], ◌∷◌, ◌++◌, length, drop, is_ok, Ok, Err, Result, sym, refl, ap, ◌∙◌, subst, arith}
 use Rattle.std.proofs.lemmas.List.{length-drop, drop-drop, length-append, append_assoc, append-nil}
 use Rattle.std.proofs.lemmas.Bool.{le-leb, lt-leb, lt-ltb, false≢true}
 use Rattle.infos.specs.Codes.{bind, decoded_in, code_at}
 use Rattle.infos.specs.Listings.{listed}
-use Rattle.infos.specs.Refusals.{InfoFault, reason_number, fault_at, at_slot, in_slot}
+use Rattle.infos.specs.Refusals.{InfoFault, fault_at, at_slot, in_slot}
 use Rattle.infos.specs.Sequences.{admitted, codes_from, codes_of, before_codes}
 use Rattle.infos.specs.declared.code.Code.{Code}
 use Rattle.infos.specs.declared.refusal.InfoReason.{InfoReason}

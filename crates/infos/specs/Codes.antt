@@ -1,5 +1,5 @@
 -- Unwind codes, as their slots say.
-use Rattle.std.specs.Prelude.{ℕ, ◌+◌, ◌*◌, ◌/◌, ◌%◌, Bool, cond, List, length, drop, Ok, Err, Result, ◌==◌, nat_le, nat_lt, slice_index}
+use Rattle.std.specs.Prelude.{ℕ, ◌+◌, ◌*◌, ◌/◌, ◌%◌, cond, List, length, drop, Ok, Err, Result, ◌==◌, nat_le, nat_lt, slice_index}
 use Rattle.layout.specs.Words.{le_at}
 use Rattle.infos.specs.declared.code.Code.{Code}
 use Rattle.infos.specs.declared.code.Operation.{Operation}

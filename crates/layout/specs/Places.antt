@@ -1,5 +1,5 @@
 -- An RVA against a module's base.
-use Rattle.std.specs.Prelude.{ℕ, ◌+◌, ◌-◌, ◌^◌, cond, ◌&&◌, Some, None, Option, nat_le, nat_lt}
+use Rattle.std.specs.Prelude.{◌+◌, ◌-◌, ◌^◌, cond, ◌&&◌, Some, None, Option, nat_le, nat_lt}
 use Rattle.layout.specs.declared.address.Address.{Address}
 use Rattle.layout.specs.declared.address.Rva.{Rva}
 

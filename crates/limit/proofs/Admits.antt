@@ -1,11 +1,11 @@
 -- What admitting a window does to a table's list: the steps of the loops, the order kept, the addresses covered.
-use Rattle.std.proofs.Common.{◌≡◌, ℕ, zero, suc, ◌+◌, ◌-◌, ◌<◌, ◌≤◌, Bool, true, false, cond, ◌&&◌, ◌||◌, ltb, leb, ◌⊎◌, List, [], ◌∷◌, ◌++◌, length, get_or, take, drop, set, is_some, Some, None, Ok, Err, Option, sym, refl, ap, ◌∙◌, subst, inl, inr, ⊎_elim, suc-le-suc, zero-le, arith}
+use Rattle.std.proofs.Common.{◌≡◌, ℕ, zero, suc, ◌+◌, ◌-◌, ◌<◌, ◌≤◌, Bool, true, false, cond, ◌&&◌, ◌||◌, ltb, leb, ◌⊎◌, List, [], ◌∷◌, ◌++◌, length, get_or, take, drop, set, is_some, Some, None, Ok, Option, sym, refl, ap, ◌∙◌, inl, inr, arith}
 use borrow.Rule.Slice.PartMut.{put_mid}
 use Rattle.std.specs.List.{insert}
-use Rattle.std.proofs.lemmas.List.{at_drop_more, set_split, drop_all, drop-append-le, take-append-le, take_rest, take_at, drop_at, append-nil, length-take-le, length-set, length-append, length-drop, take-take}
+use Rattle.std.proofs.lemmas.List.{at_drop_more, set_split, drop_all, drop-append-le, take-append-le, take_at, drop_at, append-nil, length-take-le, length-append, length-drop, take-take}
 use Rattle.std.proofs.lemmas.List.Edits.{length-insert}
-use Rattle.std.proofs.lemmas.Bool.{and_parts, and_from, and_left, and_right, or_left, or_from, or_parts, leb-true, ltb-true, ltb-false, leb-false, le-leb, lt-leb, lt-ltb, le-ltb, cond-true, cond-false, true≢false}
-use Rattle.records.specs.Spans.{past, ascending, onward, found}
+use Rattle.std.proofs.lemmas.Bool.{and_parts, and_from, and_left, and_right, or_left, or_from, or_parts, ltb-true, ltb-false, leb-false, le-leb, lt-leb, lt-ltb, le-ltb, cond-true, cond-false, true≢false}
+use Rattle.records.specs.Spans.{past, onward, found}
 use Rattle.records.proofs.Search.{asc_parts, past_lower}
 use Rattle.limit.specs.Windows.{window_first, window_last, window_holds, covered, overlaps_any, place_of, put_in, in_order, admission, open_at}
 use Rattle.limit.specs.declared.window.Window.{Window}

@@ -1,11 +1,11 @@
 -- The loops of the checks, step by step.
-use Rattle.std.proofs.Common.{◌≡◌, ℕ, ◌+◌, ◌-◌, ◌<◌, ◌≤◌, Bool, true, false, cond, ◌&&◌, ◌||◌, eqb, leb, List, [], ◌∷◌, ◌++◌, map, length, get_or, take, drop, is_ok, Ok, Err, sym, refl, ap, ◌∙◌, arith}
+use Rattle.std.proofs.Common.{◌≡◌, ℕ, ◌+◌, ◌<◌, ◌≤◌, Bool, true, false, ◌&&◌, ◌||◌, eqb, leb, List, [], ◌∷◌, ◌++◌, map, length, get_or, take, drop, is_ok, Ok, Err, sym, refl, ap, ◌∙◌, arith}
 use Rattle.std.proofs.lemmas.List.{at_drop_more, at_drop_all, take_more, map-append, length-take-le, length-drop, drop-drop}
 use Rattle.std.proofs.lemmas.Bool.{both_ways, and_parts, leb-true, eqb-true}
 use Rattle.plan.specs.Functions.{Function, functions_in}
-use Rattle.plan.specs.Refusals.{PlanFault, fault, at_index}
+use Rattle.plan.specs.Refusals.{PlanFault, at_index}
 use Rattle.plan.specs.Rules.{step_verdict, operation_good}
-use Rattle.plan.specs.Steps.{step_of, any}
+use Rattle.plan.specs.Steps.{step_of}
 use Rattle.plan.specs.Verdicts.{Verdict, next, owed, calls, within, limits_verdict, steps_counted, operations_counted, counts_verdict, steps_verdict, operations_verdict, function_verdict, functions_verdict}
 use Rattle.plan.specs.declared.step.Step.{Step}
 use Rattle.plan.specs.declared.text.Counts.{Counts}

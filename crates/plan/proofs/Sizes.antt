@@ -5,7 +5,7 @@ use Rattle.x64.specs.Encodings.{encode, encode_as, short, displacement_of, spell
 use Rattle.x64.specs.declared.instruction.Instruction.{Instruction}
 use Rattle.x64.specs.declared.instruction.Instruction.TheVariants.{Push, Pop, SubRsp, AddRsp, StoreAtRsp, LoadAtRsp, LeaAtRsp, StoreAtFrame, LoadAtFrame, LeaRspAtFrame, Set, Nop, Call, Ret}
 use Rattle.steps.specs.declared.set_frame.SetFrameStep.{SetFrameStep}
-use Rattle.plan.specs.Bodies.{bytes, forward, backward, enter, operation_instruction, work, loading, leave_by, popping, leave, instructions, steps_of, function_bytes, function_size}
+use Rattle.plan.specs.Bodies.{bytes, forward, backward, enter, operation_instruction, work, loading, leave_by, popping, leave, steps_of, function_bytes, function_size}
 use Rattle.plan.specs.Functions.{Function}
 use Rattle.plan.specs.Operations.{operation_of}
 use Rattle.plan.specs.Steps.{step_of, frame, block}

@@ -1,5 +1,5 @@
 -- The functions that a plan describes.
-use Rattle.std.specs.Prelude.{ℕ, List, [], ◌∷◌, take, drop}
+use Rattle.std.specs.Prelude.{List, [], ◌∷◌, take, drop}
 use Rattle.plan.specs.declared.text.Counts.{Counts}
 use Rattle.plan.specs.declared.text.OperationRecord.{OperationRecord}
 use Rattle.plan.specs.declared.text.Plan.{Plan}

@@ -1,7 +1,7 @@
 -- Where functions and infos of a module lie, and its bytes.
 use Rattle.std.specs.Prelude.{ℕ, ◌+◌, ◌-◌, ◌*◌, ◌/◌, List, [], ◌∷◌, ◌++◌, length, replicate}
 use Rattle.x64.specs.Encodings.{four}
-use Rattle.plan.specs.Functions.{Text, Function, functions_of}
+use Rattle.plan.specs.Functions.{Function}
 use Rattle.plan.specs.Bodies.{steps_of, function_bytes, function_size}
 use Rattle.plan.specs.UnwindInfos.{info_bytes}
 

@@ -1,5 +1,5 @@
 -- The operations of a body.
-use Rattle.std.specs.Prelude.{ℕ, Bool, cond, ℤ, ◌==◌}
+use Rattle.std.specs.Prelude.{ℕ, cond, ℤ, ◌==◌}
 use Rattle.std.specs.Int.{w32}
 use Rattle.std.proofs.Common.{of_z}
 use Rattle.plan.specs.declared.operation.Operation.{Operation}

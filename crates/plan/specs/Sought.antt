@@ -1,5 +1,5 @@
 -- What is looked for among steps.
-use Rattle.std.specs.Prelude.{ℕ, Bool}
+use Rattle.std.specs.Prelude.{Bool}
 use Rattle.plan.specs.Steps.{keeps, pushes, frames, sets_frame, saves_at, other_than_push}
 use Rattle.plan.specs.declared.step.Step.{Step}
 use Rattle.plan.specs.declared.survey.Sought.{Sought}

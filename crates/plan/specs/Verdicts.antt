@@ -1,5 +1,5 @@
 -- Which descriptions are accepted, and else the first refusal.
-use Rattle.std.specs.Prelude.{ℕ, ◌+◌, Bool, true, false, cond, not, ◌&&◌, List, [], ◌∷◌, ◌++◌, map, length, Ok, Err, Result, ◌==◌, nat_eq, nat_le}
+use Rattle.std.specs.Prelude.{ℕ, ◌+◌, Bool, cond, ◌&&◌, List, [], ◌∷◌, ◌++◌, map, length, Ok, Err, Result, ◌==◌, nat_eq, nat_le}
 use Rattle.plan.specs.Functions.{Text, Function, functions_of}
 use Rattle.plan.specs.Refusals.{PlanFault, fault, at_index}
 use Rattle.plan.specs.Rules.{step_verdict, aligned, operation_good}

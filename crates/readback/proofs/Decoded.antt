@@ -1,8 +1,7 @@
 -- The codes of steps, decoded: each means its step.
-use Rattle.std.proofs.Common.{◌≡◌, ℕ, ◌+◌, ◌-◌, ◌*◌, ◌/◌, ◌%◌, ◌^◌, ◌<◌, ◌≤◌, Bool, true, false, cond, eqb, leb, ◌≢◌, List, [], ◌∷◌, ◌++◌, length, get_or, Ok, Err, Result, sym, refl, ap, ◌∙◌, ⊎_elim, arith}
+use Rattle.std.proofs.Common.{◌≡◌, ℕ, ◌+◌, ◌-◌, ◌*◌, ◌/◌, ◌%◌, ◌^◌, ◌<◌, ◌≤◌, Bool, cond, eqb, leb, List, [], ◌∷◌, ◌++◌, length, get_or, Ok, Err, Result, refl, ap, ◌∙◌, ⊎_elim, arith}
 use Rattle.std.proofs.lemmas.List.{length-append}
-use Rattle.std.proofs.lemmas.Bool.{le-leb, lt-leb, ne_eqb, eqb-true, cond-true, cond-false, cases_lt, or_cases, true≢false, false≢true}
-use Rattle.layout.specs.Registers.{preserved, among}
+use Rattle.std.proofs.lemmas.Bool.{le-leb, lt-leb, cond-true, cond-false, cases_lt}
 use Rattle.layout.proofs.Words.{value_of_bytes}
 use Rattle.layout.specs.Words.{le_value, le_bytes}
 use Rattle.x64.specs.Encodings.{four}
@@ -14,7 +13,7 @@ use Rattle.infos.specs.declared.code.Operation.TheVariants.{Push as Pushed, Allo
 use Rattle.plan.specs.Steps.{step_code}
 use Rattle.plan.specs.declared.step.Step.{Step}
 use Rattle.plan.specs.declared.step.Step.TheVariants.{Push, Allocate, SetFrame, Save}
-use Rattle.plan.proofs.Accepted.{Fine, kept_below, kept_not_rsp, kept_not_zero}
+use Rattle.plan.proofs.Accepted.{Fine, kept_below, kept_not_rsp}
 
 -- the operation that a step's code is
 abbrev pub operation : Step → Operation

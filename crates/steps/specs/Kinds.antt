@@ -1,5 +1,5 @@
 -- The undoing and the code of each kind of step.
-use Rattle.std.specs.Prelude.{ℕ, ◌+◌, ◌-◌, ◌*◌, ◌/◌, ◌%◌, ◌^◌, Bool, cond, ◌&&◌, List, [], ◌∷◌, ◌++◌, length, nat_le, nat_lt}
+use Rattle.std.specs.Prelude.{ℕ, ◌+◌, ◌-◌, ◌*◌, ◌/◌, ◌%◌, ◌^◌, Bool, cond, ◌&&◌, List, [], ◌∷◌, length, nat_le, nat_lt}
 use Rattle.x64.specs.Encodings.{four}
 use Rattle.cpu.specs.Performance.{holds_word, with_register}
 use Rattle.steps.specs.States.{State, value, rsp, word}

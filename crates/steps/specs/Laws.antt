@@ -1,15 +1,15 @@
 -- Undoing after the effect, with any later state in between.
-use Rattle.std.specs.Prelude.{◌≡◌, ℕ, ◌+◌, ◌-◌, ◌*◌, ◌/◌, ◌%◌, ◌^◌, ◌<◌, ◌≤◌, Bool, true, false, cond, ◌&&◌, ◌||◌, ◌≢◌, ◌⊎◌, List, [], ◌∷◌, ◌++◌, length, take, drop, set, Some, ◌==◌, nat_le, slice_index, slice_set, refl}
-use Rattle.std.proofs.Common.{sym, ap, subst, ◌∙◌, inl, inr, ⊎_elim, arith}
+use Rattle.std.specs.Prelude.{◌≡◌, ℕ, ◌+◌, ◌-◌, ◌%◌, ◌^◌, ◌<◌, ◌≤◌, Bool, true, false, ◌||◌, ◌≢◌, List, length, take, drop, set, ◌==◌, nat_le, slice_index, slice_set, refl}
+use Rattle.std.proofs.Common.{sym, ap, ◌∙◌, ⊎_elim, arith}
 use Rattle.std.proofs.lemmas.List.{get_or-set_same, get_or-set_other, length-set, drop_at, take_at, length-take-le, drop-drop}
-use Rattle.std.proofs.lemmas.Bool.{and_parts, leb-true, ltb-true, le-leb, lt-ltb, le-ltb, eq-eqb, ne_eqb, cases_eq, cases_lt, cond-true, cond-false, true≢false, or_parts, eqb-false}
+use Rattle.std.proofs.lemmas.Bool.{and_parts, leb-true, le-leb, lt-ltb, ne_eqb, cases_eq, cond-true, true≢false, or_parts, eqb-false}
 use Rattle.layout.specs.Registers.{preserved}
 use Rattle.layout.specs.Words.{le_value, le_bytes, le_at, overwritten, with_word}
-use Rattle.layout.proofs.Words.{word_back, value_of_bytes, length-le_bytes}
+use Rattle.layout.proofs.Words.{value_of_bytes, length-le_bytes}
 use Rattle.x64.specs.declared.instruction.Instruction.TheVariants.{Push, SubRsp, LeaAtRsp, StoreAtRsp}
-use Rattle.cpu.specs.Effects.{below, moved, moved_back, signed}
+use Rattle.cpu.specs.Effects.{below, moved, signed}
 use Rattle.cpu.specs.Performance.{holds_word, settles}
-use Rattle.steps.specs.Kinds.{with_value, undo_push, undo_allocate, undo_frame, undo_save}
+use Rattle.steps.specs.Kinds.{undo_push, undo_allocate, undo_frame, undo_save}
 use Rattle.steps.specs.States.{State, value, rsp, word, after, allowed, Sixteen, GivesBack, Later}
 
 -- RSP is no preserved register

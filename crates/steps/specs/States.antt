@@ -1,5 +1,5 @@
 -- Registers and a stack area, and what it means that a later state gives an earlier one back.
-use Rattle.std.specs.Prelude.{◌≡◌, ℕ, ◌+◌, ◌-◌, ◌^◌, ◌<◌, ◌≤◌, Bool, true, false, List, length, drop}
+use Rattle.std.specs.Prelude.{◌≡◌, ℕ, ◌-◌, ◌^◌, ◌<◌, Bool, true, false, List, length, drop}
 use Rattle.layout.specs.Registers.{preserved}
 use Rattle.layout.specs.Words.{le_at}
 use Rattle.layout.specs.declared.registers.Registers.{Registers}

@@ -1,14 +1,13 @@
 -- What was encoded decodes to itself, whatever follows.
-use Rattle.std.proofs.Common.{◌≡◌, ℕ, ◌+◌, ◌-◌, ◌*◌, ◌/◌, ◌%◌, ◌^◌, ◌<◌, ◌≤◌, Bool, true, false, cond, not, ◌&&◌, ◌||◌, eqb, ltb, leb, ◌≢◌, ◌⊎◌, List, [], ◌∷◌, ◌++◌, length, get_or, take, drop, Some, None, Option, sym, refl, ap, ◌∙◌, subst, inl, inr, ⊎_elim, arith}
+use Rattle.std.proofs.Common.{◌≡◌, ℕ, ◌+◌, ◌-◌, ◌*◌, ◌/◌, ◌%◌, ◌^◌, ◌<◌, ◌≤◌, Bool, true, false, cond, eqb, ◌≢◌, ◌⊎◌, List, [], ◌∷◌, ◌++◌, length, take, Some, sym, refl, ap, ◌∙◌, inl, inr, ⊎_elim, arith}
 use native.Mathlib.Nat.{div-div-eq-div-mul}
 use Rattle.std.proofs.lemmas.List.{drop_at, get_or_at, length-append}
-use Rattle.std.proofs.lemmas.Bool.{and_parts, leb-true, ltb-true, ltb-false, le-leb, lt-ltb, le-ltb, lt-leb, eq-eqb, ne_eqb, cases_lt, cond-true, cond-false}
+use Rattle.std.proofs.lemmas.Bool.{le-leb, lt-ltb, le-ltb, lt-leb, ne_eqb, cases_lt, cond-true, cond-false}
 use Rattle.layout.specs.Words.{le_value, le_bytes}
 use Rattle.layout.proofs.Words.{value_of_bytes}
-use Rattle.x64.specs.Encodings.{modrm, low, high, short, four, spelled, mode, at_rsp, at_frame}
+use Rattle.x64.specs.Encodings.{modrm, high, short, four, spelled, mode, at_rsp, at_frame}
 use Rattle.x64.specs.Decodings.{extended, displaced, ending, formed, at_rsp_form, at_frame_form, memory_in, rexed, decoded}
 use Rattle.x64.proofs.Decoding.{by_rex}
-use Rattle.x64.specs.declared.instruction.Instruction.{Instruction}
 
 four-value : (d : ℕ) → d < 2 ^ 32 → le_value (four d) ≡ d
 unfolding le_bytes

@@ -1,6 +1,6 @@
 -- What bytes begin with, by the first of them.
-use Rattle.std.proofs.Common.{◌≡◌, ℕ, ◌-◌, ◌<◌, ◌≤◌, true, false, ◌&&◌, eqb, ltb, leb, ◌⊎◌, List, get_or, Some, sym, refl, ap, ◌∙◌, inl, inr, arith}
-use Rattle.std.proofs.lemmas.Bool.{eq-eqb, ne_eqb, and_from, and_left, and_right, le-leb, lt-leb, lt-ltb, le-ltb}
+use Rattle.std.proofs.Common.{◌≡◌, ℕ, ◌-◌, ◌<◌, ◌≤◌, true, false, ◌&&◌, ltb, leb, ◌⊎◌, List, get_or, Some, inl, inr, arith}
+use Rattle.std.proofs.lemmas.Bool.{eq-eqb, ne_eqb, and_left, and_right, le-leb, lt-leb, lt-ltb, le-ltb}
 use Rattle.x64.specs.Decodings.{displaced, formed, ending, plain, upper_plain, rexed, decoded}
 use Rattle.x64.specs.declared.instruction.Instruction.TheVariants.{Call}
 

@@ -1,12 +1,12 @@
 -- The laws between encoding and decoding.
-use Rattle.std.proofs.Common.{◌≡◌, ℕ, ◌+◌, ◌-◌, ◌*◌, ◌/◌, ◌%◌, ◌^◌, ◌<◌, ◌≤◌, Bool, true, false, cond, not, ◌&&◌, ◌||◌, eqb, ltb, leb, ◌≢◌, ◌⊎◌, List, [], ◌∷◌, ◌++◌, length, get_or, Some, None, Option, sym, refl, ap, ◌∙◌, subst, inl, inr, ⊎_elim, arith}
-use Rattle.std.proofs.lemmas.Bool.{and_parts, and_from, leb-true, ltb-true, le-leb, lt-ltb, le-ltb, eq-eqb, ne_eqb, eqb-false, cases_lt, cond-true, cond-false, true≢false}
-use Rattle.x64.specs.Decodings.{displaced, ending, formed, plain, upper_plain, rsp_form, set_form, set_in, at_rsp_form, at_frame_form, rexed, decoded}
-use Rattle.x64.specs.Encodings.{low, high, short, four, spelled, nameable, addressing, well_formed, encode_as, one_register, on_rsp, at_rsp, at_frame}
-use Rattle.x64.specs.Laws.{Form, DecodesBack, EncodesApart}
+use Rattle.std.proofs.Common.{◌≡◌, ℕ, ◌+◌, ◌-◌, ◌*◌, ◌/◌, ◌%◌, ◌^◌, ◌<◌, ◌≤◌, Bool, true, false, cond, not, ◌&&◌, eqb, ltb, ◌≢◌, List, [], ◌∷◌, ◌++◌, length, Some, None, Option, sym, refl, ap, ◌∙◌, inr, ⊎_elim, arith}
+use Rattle.std.proofs.lemmas.Bool.{and_parts, ltb-true, le-leb, lt-ltb, le-ltb, ne_eqb, eqb-false, cases_lt, cond-true, cond-false, true≢false}
+use Rattle.x64.specs.Decodings.{ending, formed, plain, upper_plain, rsp_form, set_form, set_in, at_rsp_form, at_frame_form, decoded}
+use Rattle.x64.specs.Encodings.{high, short, four, spelled, nameable, addressing, encode_as, one_register, on_rsp, at_rsp, at_frame}
+use Rattle.x64.specs.Laws.{DecodesBack, EncodesApart}
 use Rattle.x64.specs.declared.instruction.Instruction.{Instruction}
 use Rattle.x64.specs.declared.instruction.Instruction.TheVariants.{Push, Pop, SubRsp, AddRsp, StoreAtRsp, LoadAtRsp, LeaAtRsp, StoreAtFrame, LoadAtFrame, LeaRspAtFrame, Set, Nop, Call, Ret}
-use Rattle.x64.proofs.Back.{displacement, high_cases, high_le, halves, rsp_access, frame_access}
+use Rattle.x64.proofs.Back.{displacement, high_le, halves, rsp_access, frame_access}
 use Rattle.x64.proofs.Decoding.{by_call, by_upper, by_plain, by_rex}
 
 unnot : (b : Bool) → not b ≡ true → b ≡ false

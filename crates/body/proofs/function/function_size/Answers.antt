@@ -1,6 +1,6 @@
-use Rattle.std.proofs.Common.{◌≡◌, ℕ, ◌+◌, map, length, ap, ◌∙◌, arith}
+use Rattle.std.proofs.Common.{map, length, ap, ◌∙◌, arith}
 use Rattle.plan.specs.Bodies.{bytes, forward, loading, leave_by}
-use Rattle.plan.specs.Steps.{step_of, block, frame}
+use Rattle.plan.specs.Steps.{step_of, frame}
 use Rattle.body.proofs.Working.{size_by_parts}
 use Rattle.body.proofs.function.function_size.Goals as goal
 

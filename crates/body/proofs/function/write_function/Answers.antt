@@ -1,4 +1,4 @@
-use Rattle.std.proofs.Common.{◌≡◌, ℕ, ◌+◌, ◌-◌, map, length, refl, ap, arith}
+use Rattle.std.proofs.Common.{◌≡◌, ◌+◌, ◌-◌, map, length, refl, arith}
 use Rattle.plan.specs.Bodies.{bytes, enter}
 use Rattle.plan.specs.Functions.{Function}
 use Rattle.plan.specs.Steps.{step_of}

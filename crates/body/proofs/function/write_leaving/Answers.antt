@@ -1,4 +1,4 @@
-use Rattle.std.proofs.Common.{sym, ap, ◌∙◌, arith}
+use Rattle.std.proofs.Common.{sym, ap, ◌∙◌}
 use Rattle.plan.specs.Bodies.{bytes}
 use Rattle.body.proofs.Bytes.{one, none}
 use Rattle.body.proofs.Writing.{begin, recast, last_room, last, ended, ends}

@@ -1,4 +1,4 @@
-use Rattle.std.proofs.Common.{[], map, sym, ◌∙◌, arith}
+use Rattle.std.proofs.Common.{[], map, arith}
 use Rattle.plan.specs.Operations.{operation_of}
 use Rattle.body.proofs.Working.{work_sized, sized_one, sized_none}
 use Rattle.body.proofs.operations.operations_size.Goals as goal

@@ -1,4 +1,4 @@
-use Rattle.std.proofs.Common.{◌≡◌, ℕ, ◌+◌, ◌*◌, ◌≤◌, map, drop}
+use Rattle.std.proofs.Common.{◌≡◌, ◌+◌, map, drop}
 use Rattle.plan.specs.Bodies.{bytes, work}
 use Rattle.plan.specs.Operations.{operation_of}
 use Rattle.body.proofs.Writing.{Rest}

@@ -1,4 +1,4 @@
-use Rattle.std.proofs.Common.{◌≡◌, ℕ, ◌+◌, ◌*◌, ◌≤◌, map, length, drop}
+use Rattle.std.proofs.Common.{map, drop}
 use Rattle.plan.specs.Bodies.{bytes, enter}
 use Rattle.plan.specs.Steps.{step_of}
 use Rattle.body.proofs.Writing.{Rest}

@@ -1,4 +1,4 @@
-use Rattle.std.proofs.Common.{◌≡◌, ℕ, ◌+◌, ◌*◌, ◌≤◌, map, drop}
+use Rattle.std.proofs.Common.{◌≡◌, ◌+◌, ◌*◌, ◌≤◌, map, drop}
 use Rattle.plan.specs.Steps.{step_of}
 use Rattle.compile.proofs.Coding.{coded}
 use Rattle.compile.proofs.info.codes_size.Given as goal

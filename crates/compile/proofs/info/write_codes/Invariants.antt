@@ -1,4 +1,4 @@
-use Rattle.std.proofs.Common.{◌≡◌, ℕ, ◌+◌, ◌*◌, ◌<◌, ◌≤◌, map, length, take}
+use Rattle.std.proofs.Common.{◌≡◌, ◌<◌, ◌≤◌, map, length, take}
 use Rattle.plan.specs.Bodies.{bytes, enter}
 use Rattle.plan.specs.Steps.{step_of}
 use Rattle.plan.specs.UnwindInfos.{codes}

@@ -1,4 +1,4 @@
-use Rattle.std.proofs.Common.{◌≡◌, ◌<◌, sym, ap, ◌∙◌, subst, arith}
+use Rattle.std.proofs.Common.{◌<◌, sym, ap, ◌∙◌, subst, arith}
 use Rattle.plan.specs.UnwindInfos.{frame_byte}
 use Rattle.body.proofs.Writing.{room, write, last_room, last}
 use Rattle.compile.proofs.Coding.{frame-fits, info_headed}

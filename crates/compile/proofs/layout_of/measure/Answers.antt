@@ -1,4 +1,4 @@
-use Rattle.std.proofs.Common.{◌≡◌, ℕ, ◌^◌, ◌<◌, length, refl, arith, rules}
+use Rattle.std.proofs.Common.{◌^◌, ◌<◌, length, refl, arith, rules}
 use Rattle.plan.proofs.Passes.{lists_start, lists_fit}
 use Rattle.compile.proofs.Laying.{measured_none, measured_on, measured_all, own_sizes}
 use Rattle.compile.proofs.layout_of.measure.Goals as goal

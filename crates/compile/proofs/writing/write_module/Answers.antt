@@ -1,4 +1,4 @@
-use Rattle.std.proofs.Common.{◌≡◌, ℕ, ◌^◌, ◌<◌, length, refl, arith, rules}
+use Rattle.std.proofs.Common.{◌^◌, ◌<◌, length, refl, arith, rules}
 use Rattle.plan.proofs.Passes.{lists_fit}
 use Rattle.compile.proofs.Filling.{written_none, few-steps, next_sound, gap_room, function_room, bounds, entry_room, info_room, written_on, written_all}
 use Rattle.compile.proofs.writing.write_module.Goals as goal

@@ -1,4 +1,4 @@
-use Rattle.std.proofs.Common.{◌≡◌, ℕ, List, sym, ap, arith}
+use Rattle.std.proofs.Common.{ℕ, List, sym, ap, arith}
 use Rattle.std.proofs.lemmas.List.{set_past}
 use Rattle.layout.specs.declared.registers.Registers.{Registers}
 use Rattle.cpu.proofs.perform.put.Goals as goal

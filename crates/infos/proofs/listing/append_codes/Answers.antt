@@ -1,4 +1,4 @@
-use Rattle.std.proofs.Common.{◌≡◌, ℕ, ◌+◌, ◌*◌, ◌<◌, ◌≤◌, true, cond, ltb, List, [], ◌∷◌, ◌++◌, length, drop, set, is_ok, Ok, Err, Result, sym, refl, ap, ◌∙◌, arith, rules}
+use Rattle.std.proofs.Common.{◌≡◌, ℕ, ◌+◌, ◌*◌, ◌<◌, ◌≤◌, true, cond, ltb, [], ◌∷◌, ◌++◌, length, drop, set, is_ok, Ok, Err, Result, sym, refl, ap, ◌∙◌, arith, rules}
 use Rattle.std.specs.Result.{result_map_both}
 use Rattle.std.proofs.lemmas.List.{length-drop, length-append, length_push}
 use Rattle.std.proofs.lemmas.Bool.{cond-true, lt-ltb, false≢true}
@@ -6,9 +6,7 @@ use Rattle.records.specs.Refusals.{list_number}
 use Rattle.records.specs.declared.list.NoRecord.{NoRecord}
 use Rattle.infos.specs.Listings.{listed}
 use Rattle.infos.specs.Sequences.{codes_of}
-use Rattle.infos.specs.declared.code.Code.{Code}
-use Rattle.infos.specs.declared.sequence.Progress.{Progress}
-use Rattle.infos.proofs.Slots.{Left, at_place, start, advance, all_decode, fits, ended, further}
+use Rattle.infos.proofs.Slots.{at_place, start, advance, all_decode, fits, ended, further}
 use Rattle.tables.proofs.Fill.{put_next}
 use Rattle.infos.proofs.listing.append_codes.Goals as goal
 

@@ -1,4 +1,4 @@
-use Rattle.std.proofs.Common.{◌≡◌, ◌^◌, ◌<◌, arith}
+use Rattle.std.proofs.Common.{◌≡◌, arith}
 use Rattle.layout.specs.Words.{le_bytes}
 use Rattle.layout.proofs.Words.{put_down}
 use Rattle.layout.proofs.word.write_u16.Goals as goal

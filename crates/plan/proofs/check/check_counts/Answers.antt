@@ -1,4 +1,4 @@
-use Rattle.std.proofs.Common.{◌≡◌, ◌&&◌, eqb, List, length, get_or, sym, ap, ◌∙◌, arith}
+use Rattle.std.proofs.Common.{◌&&◌, eqb, List, length, get_or, sym, ap, ◌∙◌, arith}
 use Rattle.plan.specs.declared.text.Counts.{Counts}
 use Rattle.std.proofs.lemmas.Result.{err_from_is_err_and}
 use Rattle.plan.specs.Verdicts.{next, owed, steps_counted, operations_counted}

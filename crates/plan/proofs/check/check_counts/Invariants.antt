@@ -1,7 +1,5 @@
-use Rattle.std.proofs.Common.{◌≡◌, ℕ, ◌+◌, ◌-◌, ◌*◌, ◌≤◌, map, length, take, drop}
-use Rattle.plan.specs.Steps.{step_of, any}
-use Rattle.plan.specs.Functions.{functions_in}
-use Rattle.plan.specs.Verdicts.{calls, limits_verdict, steps_counted, operations_counted, steps_verdict, operations_verdict, functions_verdict}
+use Rattle.std.proofs.Common.{◌≡◌, ◌+◌, ◌-◌, ◌*◌, ◌≤◌, length, drop}
+use Rattle.plan.specs.Verdicts.{limits_verdict, steps_counted, operations_counted}
 use Rattle.plan.proofs.check.check_counts.Given as goal
 
 abbrev pub invariant-loop-k : goal.invariant-loop-k

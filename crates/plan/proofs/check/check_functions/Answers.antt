@@ -1,8 +1,6 @@
-use Rattle.std.proofs.Common.{◌≡◌, ℕ, ◌+◌, ◌^◌, ◌<◌, ◌≤◌, List, length, get_or, sym, refl, ap, ◌∙◌, arith, rules}
+use Rattle.std.proofs.Common.{◌≡◌, ℕ, ◌^◌, ◌<◌, List, length, get_or, sym, refl, ap, ◌∙◌, arith, rules}
 use Rattle.std.proofs.lemmas.Result.{err_from_is_err_and}
-use Rattle.plan.specs.Functions.{Function}
-use Rattle.plan.specs.Refusals.{told}
-use Rattle.plan.specs.Verdicts.{function_verdict, functions_verdict}
+use Rattle.plan.specs.Verdicts.{function_verdict}
 use Rattle.plan.specs.declared.text.OperationRecord.{OperationRecord}
 use Rattle.plan.specs.declared.text.StepRecord.{StepRecord}
 use Rattle.plan.proofs.Passes.{lists_start, lists_fit, lists_on, length_part, functions_one, no_functions, stopped, passed}

@@ -1,8 +1,7 @@
-use Rattle.std.proofs.Common.{◌≡◌, ℕ, ◌+◌, ◌-◌, ◌*◌, ◌≤◌, map, length, take, drop}
-use Rattle.plan.specs.Steps.{step_of, any}
+use Rattle.std.proofs.Common.{◌≡◌, ◌-◌, ◌≤◌, length, drop}
 use Rattle.plan.proofs.Passes.{InLists}
 use Rattle.plan.specs.Functions.{functions_in}
-use Rattle.plan.specs.Verdicts.{calls, limits_verdict, steps_counted, operations_counted, steps_verdict, operations_verdict, functions_verdict}
+use Rattle.plan.specs.Verdicts.{functions_verdict}
 use Rattle.plan.proofs.check.check_functions.Given as goal
 
 abbrev pub invariant-loop-k : goal.invariant-loop-k

@@ -1,7 +1,6 @@
-use Rattle.std.proofs.Common.{◌≡◌, ℕ, ◌+◌, ◌-◌, ◌*◌, ◌≤◌, map, length, take, drop}
-use Rattle.plan.specs.Steps.{step_of, any}
-use Rattle.plan.specs.Functions.{functions_in}
-use Rattle.plan.specs.Verdicts.{calls, limits_verdict, steps_counted, operations_counted, steps_verdict, operations_verdict, functions_verdict}
+use Rattle.std.proofs.Common.{◌≡◌, ◌+◌, ◌-◌, ◌≤◌, map, length, drop}
+use Rattle.plan.specs.Steps.{step_of}
+use Rattle.plan.specs.Verdicts.{operations_verdict}
 use Rattle.plan.proofs.check.check_operations.Given as goal
 
 abbrev pub invariant-loop-i : goal.invariant-loop-i

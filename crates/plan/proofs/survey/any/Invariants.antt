@@ -1,5 +1,5 @@
-use Rattle.std.proofs.Common.{◌≡◌, ℕ, ◌+◌, ◌≤◌, map, drop}
-use Rattle.plan.specs.Steps.{step_of, any, pushed, block, frame}
+use Rattle.std.proofs.Common.{◌≡◌, map, drop}
+use Rattle.plan.specs.Steps.{step_of, any}
 use Rattle.plan.specs.Sought.{fits}
 use Rattle.plan.proofs.survey.any.Given as goal
 

@@ -1,6 +1,5 @@
-use Rattle.std.proofs.Common.{◌≡◌, ℕ, ◌+◌, ◌≤◌, map, drop}
-use Rattle.plan.specs.Steps.{step_of, any, pushed, block, frame}
-use Rattle.plan.specs.Sought.{fits}
+use Rattle.std.proofs.Common.{◌≡◌, map, drop}
+use Rattle.plan.specs.Steps.{step_of, block}
 use Rattle.plan.proofs.survey.block_size.Given as goal
 
 abbrev pub invariant-loop-s : goal.invariant-loop-s

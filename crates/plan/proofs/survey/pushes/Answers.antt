@@ -1,4 +1,4 @@
-use Rattle.std.proofs.Common.{sym, ◌∙◌, arith}
+use Rattle.std.proofs.Common.{arith}
 use Rattle.plan.proofs.Surveys.{pushed_one, pushed_on, none_left}
 use Rattle.plan.proofs.survey.pushes.Goals as goal
 use Rattle.plan.proofs.survey.pushes.Goals.{in-Push, in_default}

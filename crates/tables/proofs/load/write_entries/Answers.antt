@@ -1,4 +1,4 @@
-use Rattle.std.proofs.Common.{◌≡◌, ◌*◌, ◌<◌, length, arith}
+use Rattle.std.proofs.Common.{◌*◌, ◌<◌, length, arith}
 use Rattle.tables.specs.Entries.{entry_at}
 use Rattle.tables.proofs.Fill.{front_more}
 use Rattle.tables.proofs.load.write_entries.Goals as goal

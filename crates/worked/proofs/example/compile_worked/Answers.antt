@@ -1,4 +1,4 @@
-use Rattle.std.proofs.Common.{◌≡◌, ℕ, cond, List, [], get_or, is_ok, ap, ◌∙◌}
+use Rattle.std.proofs.Common.{◌≡◌, cond, [], get_or, is_ok, ap, ◌∙◌}
 use Rattle.layout.specs.Words.{overwritten}
 use Rattle.plan.specs.Functions.{functions_of}
 use Rattle.plan.specs.Layouts.{code, infos, table}

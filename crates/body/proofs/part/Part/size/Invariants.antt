@@ -1,4 +1,4 @@
-use Rattle.std.proofs.Common.{◌≡◌, ℕ, ◌+◌, ◌*◌, ◌≤◌, map, length, drop}
+use Rattle.std.proofs.Common.{◌≡◌, ◌+◌, ◌*◌, ◌≤◌, map, length, drop}
 use Rattle.plan.specs.Bodies.{bytes, forward}
 use Rattle.plan.specs.Steps.{step_of}
 use Rattle.body.specs.Parts.{of_part}

@@ -1,4 +1,4 @@
-use Rattle.std.proofs.Common.{◌≡◌, ◌+◌, ◌-◌, ◌<◌, ◌≤◌, true, false, cond, length, take, is_ok, sym, ap, ◌∙◌, arith}
+use Rattle.std.proofs.Common.{◌<◌, cond, length, take, is_ok, sym, ap, ◌∙◌, arith}
 use Rattle.std.proofs.lemmas.List.{length-take-le}
 use Rattle.limit.specs.Windows.{covered, in_order, put_in}
 use Rattle.limit.proofs.Admits.{place-fits, grown, order_inserted, accepted, untouched, put_is, covered_put}

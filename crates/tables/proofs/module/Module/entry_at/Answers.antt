@@ -1,4 +1,4 @@
-use Rattle.std.proofs.Common.{Some, None, sym, ap, ◌∙◌}
+use Rattle.std.proofs.Common.{sym, ap, ◌∙◌}
 use Rattle.tables.specs.declared.entry.Entry.{Entry}
 use Rattle.tables.proofs.Entries.{entry_of, holding_found}
 use Rattle.tables.proofs.module.Module.entry_at.Goals as goal
