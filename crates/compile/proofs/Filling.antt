@@ -49,8 +49,8 @@ written_none cs ss os st rva c i t w =
 
 module _ {cs : List Counts} {ss : List StepRecord} {os : List OperationRecord} {st : List ℕ} {rva : ℕ} {c₀ i₀ t₀ c i t : List ℕ} {k s o at n : ℕ} (w : Written cs ss os st rva c₀ i₀ t₀ c i t k s o at n)
     (d : Counts) (a : List StepRecord) (b : List OperationRecord) (h : k < length cs) (ea : a ≡ take (get_or cs k d).steps (drop s ss)) (eb : b ≡ take (get_or cs k d).operations (drop o os)) where
-  pub few-steps : length a ≤ 10
-  few-steps =
+  pub few_steps : length a ≤ 10
+  few_steps =
       let fit = lists_fit cs ss os k s o d h w.lists in
       omega (arith, ap length ea ∙ length_part ss s (get_or cs k d).steps fit.0, fit.2)
 
@@ -75,7 +75,7 @@ module _ {cs : List Counts} {ss : List StepRecord} {os : List OperationRecord} {
     small : function_size f ≤ 2300
     small =
         let fit = lists_fit cs ss os k s o d h w.lists in
-        few_bytes f few-steps (omega (arith, ap length eb ∙ length_part os o (get_or cs k d).operations fit.1, fit.3))
+        few_bytes f few_steps (omega (arith, ap length eb ∙ length_part os o (get_or cs k d).operations fit.1, fit.3))
 
     cons : left cs ss os k s o ≡ f ∷ later
     cons = left_cons cs ss os k s o d h a b p q ea eb ep eq
@@ -149,7 +149,7 @@ module _ {cs : List Counts} {ss : List StepRecord} {os : List OperationRecord} {
               in_table = recast (write (entry from at' (rva + n)) _ table-next t' (12 * (k + 1)) wt (omega arith)) (ap (λ r. table_from at' r later) moved);
               low = let u = up_fits at in omega (arith, ends, eu, u.0, w.low);
               high = bounds;
-              few = omega (arith, wn, info_at_most a few-steps, w.few);
+              few = omega (arith, wn, info_at_most a few_steps, w.few);
             }
 
 -- all functions written

@@ -1,15 +1,15 @@
 -- What an accepted description says of its functions and their steps.
-use Rattle.std.proofs.Common.{◌≡◌, ℕ, ◌+◌, ◌%◌, ◌<◌, ◌≤◌, Bool, true, false, cond, not, ◌&&◌, ◌||◌, eqb, leb, ◌≢◌, List, [], ◌∷◌, ◌++◌, map, length, take, drop, is_ok, Some, Ok, Err, Option, Result, sym, refl, ap, ◌∙◌, subst, ⊎_elim, arith}
+use Rattle.std.proofs.Common.{min, ◌≡◌, ℕ, ◌+◌, ◌%◌, ◌<◌, ◌≤◌, Bool, true, false, cond, not, ◌&&◌, ◌||◌, eqb, leb, ◌≢◌, List, [], ◌∷◌, ◌++◌, map, length, take, drop, is_ok, Some, Ok, Err, Option, Result, sym, refl, ap, ◌∙◌, subst, ⊎_elim, arith}
 use Rattle.std.specs.Result.{result_map_both}
 use Rattle.std.proofs.lemmas.List.{length-take}
-use Rattle.std.proofs.lemmas.Bool.{cond-true, cond-false, lt-ltb, le-ltb, cases_lt, false≢true, true≢false, and_parts, leb-true, eqb-true, ne_eqb, cases_eq, or_cases, or_parts, not-true}
+use Rattle.std.proofs.lemmas.Bool.{false≢true, true≢false, and_parts, leb-true, eqb-true, ne_eqb, cases_eq, or_cases, or_parts, not-true}
 use Rattle.layout.specs.Registers.{preserved}
 use Rattle.steps.specs.declared.set_frame.SetFrameStep.{SetFrameStep}
 use Rattle.plan.proofs.Passes.{next_ok, owed_good, counts_good, limits_within}
 use Rattle.plan.specs.Functions.{Text, Function, functions_in, functions_of}
 use Rattle.plan.specs.Refusals.{PlanFault, fault}
 use Rattle.plan.specs.Rules.{known, repeated, in_order, number_fits, shape_verdict, step_verdict}
-use Rattle.plan.specs.Steps.{step, in_byte, step_of, any, pushes, sets_frame, saves_at, block, frame, Sound, AllSound}
+use Rattle.plan.specs.Steps.{step, step_of, any, pushes, sets_frame, saves_at, block, frame, Sound, AllSound}
 use Rattle.plan.specs.Verdicts.{steps_verdict, function_verdict, functions_verdict, limits_verdict, steps_counted, plan_verdict}
 use Rattle.plan.specs.declared.step.Step.{Step}
 use Rattle.plan.specs.declared.step.Step.TheVariants.{Push, Allocate, SetFrame, Save}
@@ -40,12 +40,9 @@ kept_not_rsp r p = ne_eqb r 4 (not_kept r 4 refl p)
 pub kept_not_zero : (r : ℕ) → preserved r ≡ true → eqb r 0 ≡ false
 kept_not_zero r p = ne_eqb r 0 (not_kept r 0 refl p)
 
--- an offset that was accepted is what its byte holds
-byte_small : (n : ℕ) → in_byte n ≤ 240 → in_byte n ≡ n
-byte_small n h = ⊎_elim (λ l. cond-true _ _ _ (lt-ltb n 256 l)) (λ g. absurd (too_large (cond-false _ n 255 (le-ltb n 256 g)))) (cases_lt n 256)
-  where
-    too_large : in_byte n ≡ 255 → ⊥
-    too_large e = omega (arith, e, h)
+-- a frame offset that was accepted is the record's number
+byte_small : (n : ℕ) → min n 255 ≤ 240 → min n 255 ≡ n
+byte_small n h = omega arith
 
 -- the record of a step
 abbrev pub record_of : Step → StepRecord
@@ -152,9 +149,9 @@ module _ (does : Bool) (before : List Step) (b : Before before) where
       let g = shape_good (repeated before (step_of (step 2 r n))) (in_order before (step_of (step 2 r n))) (number_fits does before (step_of (step 2 r n))) v in
       let i = and_parts (not (any sets_frame before)) (not (eqb r 12) && any (pushes r) before) g.0 in
       let j = and_parts (not (eqb r 12)) (any (pushes r) before) i.1 in
-      let p = and_parts (leb (in_byte n) 240) (eqb (in_byte n % 16) 0) g.1 in
-      let small : in_byte n ≤ 240 = leb-true (in_byte n) 240 p.0 in
-      (ap (step 2 r) (byte_small n small), (b.1 r j.1, small, eqb-true (in_byte n % 16) 0 p.1, not-true (any sets_frame before) i.0))
+      let p = and_parts (leb (min n 255) 240) (eqb (min n 255 % 16) 0) g.1 in
+      let small : min n 255 ≤ 240 = leb-true (min n 255) 240 p.0 in
+      (ap (step 2 r) (byte_small n small), (b.1 r j.1, small, eqb-true (min n 255 % 16) 0 p.1, not-true (any sets_frame before) i.0))
 
   save_owed : (r n : ℕ) → Owed (step 3 r n)
   save_owed r n k v =
@@ -223,8 +220,8 @@ nothing-before = (omega arith, λ q e. absurd (false≢true e))
 
 -- a function of an accepted description
 pub record Good (f : Function) : Type 0 where
-  pub few-steps : length f.steps ≤ 10
-  pub few-operations : length f.operations ≤ 255
+  pub few_steps : length f.steps ≤ 10
+  pub few_operations : length f.operations ≤ 255
   pub records : map record_of (map step_of f.steps) ≡ f.steps
   pub fine : Fines (frame (map step_of f.steps)) false (map step_of f.steps)
 
@@ -236,7 +233,7 @@ pub function_good : (n index at operation : ℕ) (f : Function) → length f.ste
 function_good n index at operation f a b v =
     let p = next_ok _ _ v in
     let g = steps_good _ _ (frame (map step_of f.steps)) [] f.steps nothing-before p.0 (λ _. refl) in
-    record { few-steps = a; few-operations = b; records = g.0; fine = g.1 }
+    record { few_steps = a; few_operations = b; records = g.0; fine = g.1 }
 
 take_short : {X : Type 0} (n m : ℕ) (xs : List X) → n ≤ m → length (take n xs) ≤ m
 take_short n m xs h = simp length-take (omega arith)

@@ -1,5 +1,5 @@
 -- The steps of a prologue, and what they lay out together.
-use Rattle.std.specs.Prelude.{◌≡◌, ℕ, ◌+◌, ◌%◌, ◌<◌, ◌≤◌, Bool, true, false, cond, ◌||◌, List, [], ◌∷◌, Some, None, Option, ◌==◌, nat_lt}
+use Rattle.std.specs.Prelude.{◌≡◌, ℕ, ◌+◌, ◌%◌, ◌<◌, ◌≤◌, Bool, true, false, cond, ◌||◌, List, [], ◌∷◌, Some, None, Option, ◌==◌, min}
 use Rattle.layout.specs.Registers.{preserved}
 use Rattle.x64.specs.declared.instruction.Instruction.{Instruction}
 use Rattle.x64.specs.declared.instruction.Instruction.TheVariants.{Push as PushRegister, SubRsp, StoreAtRsp, LeaAtRsp}
@@ -13,16 +13,12 @@ use Rattle.plan.specs.declared.text.StepRecord.{StepRecord}
 abbrev pub step : ℕ → ℕ → ℕ → StepRecord
 step kind register number = record { kind = kind; register = register; number = number }
 
--- a frame offset as its byte holds it: 255, which is no multiple of 16 and so refused, where it is larger
-abbrev pub in_byte : ℕ → ℕ
-in_byte n = cond (nat_lt n 256) n 255
-
--- what a record means
+-- what a record means; a frame offset above 255, which no check accepts, counts as 255
 abbrev pub step_of : StepRecord → Step
 step_of r =
     cond (r.kind == 0) (Push (record { register = r.register }))
     (cond (r.kind == 1) (Allocate (record { size = r.number }))
-    (cond (r.kind == 2) (SetFrame (record { register = r.register; offset = in_byte r.number }))
+    (cond (r.kind == 2) (SetFrame (record { register = r.register; offset = min r.number 255 }))
     (Save (record { register = r.register; offset = r.number }))))
 
 abbrev pub step_instruction : Step → Instruction

@@ -1,7 +1,7 @@
 // The steps that records of the four kinds mean.
 ghost use Rattle.std.specs.Prelude.{◌≡◌, ℕ, ◌+◌, ◌≤◌, length};
 ghost use Rattle.layout.specs.Words.{overwritten};
-ghost use Rattle.plan.specs.Steps.{in_byte, step_of, step_instruction, step_code, Sound};
+ghost use Rattle.plan.specs.Steps.{step_of, step_instruction, step_code, Sound};
 
 use crate::text::StepRecord;
 use steps::allocate::AllocateStep;
@@ -10,13 +10,6 @@ use steps::push::PushStep;
 use steps::save::SaveStep;
 use steps::set_frame::SetFrameStep;
 use x64::instruction::Instruction;
-
-// A frame offset as its byte holds it: 255, which no check accepts, where it is larger.
-fn in_byte(number: u32) -> u8
-    ensures { result ≡ in_byte number }
-{
-    if number < 256 { number as u8 } else { 255 }
-}
 
 #[derive(Clone, Copy)]
 pub enum Step {
@@ -27,7 +20,7 @@ pub enum Step {
 }
 
 impl Step {
-    // The step that a record means; a kind above 3 counts as 3.
+    // The step that a record means; a kind above 3 counts as 3, and a frame offset above 255 as 255, which no check accepts.
     pub fn of(r: StepRecord) -> Step
         ensures { result ≡ step_of r }
     {
@@ -38,7 +31,7 @@ impl Step {
             1 => Step::Allocate(AllocateStep { size: r.number }),
             2 => Step::SetFrame(SetFrameStep {
                 register: r.register,
-                offset: in_byte(r.number),
+                offset: r.number.min(255) as u8,
             }),
             _ => Step::Save(SaveStep {
                 register: r.register,

@@ -17,7 +17,7 @@ use Rattle.plan.specs.declared.step.Step.TheVariants.{Push, Allocate, SetFrame, 
 use Rattle.tables.specs.declared.entry.Entry.{Entry}
 use Rattle.readback.specs.Readings.{steps_in, steps_of_codes, function_steps}
 use Rattle.plan.proofs.Accepted.{Fines, record_of, kept_below, kept_not_rsp}
-use Rattle.readback.proofs.Walked.{frame-number, frame-place, walked, slots_whole}
+use Rattle.readback.proofs.Walked.{frame_number, frame_place, walked, slots_whole}
 
 -- the pad makes the slots even
 quarter : (n : ℕ) → 2 * n % 4 ≡ 2 * (n % 2)
@@ -32,7 +32,7 @@ pad-size n =
 
 -- the frame register and offset, in one byte and out of it
 abbrev Framing : Option SetFrameStep → Type 0
-Framing f = (frame_byte f % 16 ≡ frame-number f) × (frame_byte f / 16 * 16 ≡ frame-place f) × (eqb (frame-number f) 4 ≡ false)
+Framing f = (frame_byte f % 16 ≡ frame_number f) × (frame_byte f / 16 * 16 ≡ frame_place f) × (eqb (frame_number f) 4 ≡ false)
 
 first_frame : (g : Option SetFrameStep) (used : Bool) (ss : List Step) → Fines g used ss → Framing (frame ss)
 unfolding frame
@@ -71,7 +71,7 @@ module _ (ss : List Step) (h : Fines (frame ss) false ss) where
 
   -- the info with its parts
   abbrev own : ℕ → InfoOf
-  own at = record { flags = 0; prologue = prologue; count = length cs / 2; frame_register = frame-number f; frame_offset = frame-place f; place = at + 4; slots = cs; tail = nothing }
+  own at = record { flags = 0; prologue = prologue; count = length cs / 2; frame_register = frame_number f; frame_offset = frame_place f; place = at + 4; slots = cs; tail = nothing }
 
   header : (at : ℕ) (tail : List ℕ) → header_in at (info_bytes ss ++ tail) ≡ Ok (own at)
   header at tail =
@@ -85,13 +85,13 @@ module _ (ss : List Step) (h : Fines (frame ss) false ss) where
       cond-true _ _ _ (le-leb (4 + 2 * padded n + 0) (length (info_bytes ss ++ tail)) (omega (arith, fits)))
       ∙ cond-false _ _ _ (ap (λ r. eqb r 4) frames.0 ∙ frames.2)
       ∙ ap (λ r. made r (b / 16 * 16) (take (2 * n) rest)) frames.0
-      ∙ ap (λ o. made (frame-number f) o (take (2 * n) rest)) frames.1
-      ∙ ap (made (frame-number f) (frame-place f)) slots
+      ∙ ap (λ o. made (frame_number f) o (take (2 * n) rest)) frames.1
+      ∙ ap (made (frame_number f) (frame_place f)) slots
 
   steps_own : (at : ℕ) → steps_in (own at) ≡ Ok (map record_of ss)
   steps_own at = walked f ss prologue h (omega arith)
 
-  codes_own : (at : ℕ) (r : Result (List Code) InfoFault) → bind r (steps_of_codes (frame-number f) (frame-place f)) ≡ Ok (map record_of ss) → bind r (λ _. Ok (own at)) ≡ Ok (own at)
+  codes_own : (at : ℕ) (r : Result (List Code) InfoFault) → bind r (steps_of_codes (frame_number f) (frame_place f)) ≡ Ok (map record_of ss) → bind r (λ _. Ok (own at)) ≡ Ok (own at)
   codes_own at (Ok cs) e = refl
   codes_own at (Err d) e = let z : ◌≡◌ {A = ℕ} 0 1 = cc in absurd (omega arith)
 
@@ -111,7 +111,7 @@ module _ (ss : List Step) (h : Fines (frame ss) false ss) where
 
     info-own : info_at area start rva ≡ Ok (own (rva - start))
     info-own =
-        ap (λ r. bind (at_slot 65535 r) (λ i. bind (codes_of i.prologue i.frame_register i.slots) (λ _. Ok i))) located-own ∙ codes_own (rva - start) (codes_of prologue (frame-number f) cs) (steps_own (rva - start))
+        ap (λ r. bind (at_slot 65535 r) (λ i. bind (codes_of i.prologue i.frame_register i.slots) (λ _. Ok i))) located-own ∙ codes_own (rva - start) (codes_of prologue (frame_number f) cs) (steps_own (rva - start))
 
     pub steps_back : (e : Entry) → e.info.0 ≡ rva → function_steps area start e ≡ Ok (map record_of ss)
     steps_back e is =

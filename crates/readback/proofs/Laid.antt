@@ -50,7 +50,7 @@ module _ (f : Function) (at : ℕ) where
   later = omega (arith, (up_above at).0, some_bytes f)
 
   near : Good f → next ≤ at + 4096
-  near g = omega (arith, (up_above at).1, few_bytes f g.few-steps g.few-operations)
+  near g = omega (arith, (up_above at).1, few_bytes f g.few_steps g.few_operations)
 
 pub end_above : (at : ℕ) (fs : List Function) → at ≤ end_of at fs
 unfolding end_of
@@ -77,7 +77,7 @@ pub infos_near : (fs : List Function) → Goods fs → length (infos fs) ≤ 100
 unfolding infos
 infos_near [] g = omega arith
 infos_near (f ∷ fs) g =
-    let own : length (info_bytes (steps_of f)) ≤ 100 = info_short (steps_of f) g.0.fine (omega (arith, length-map f.steps step_of, g.0.few-steps)) in
+    let own : length (info_bytes (steps_of f)) ≤ 100 = info_short (steps_of f) g.0.fine (omega (arith, length-map f.steps step_of, g.0.few_steps)) in
     omega (arith, length-append (info_bytes (steps_of f)) (infos fs), own, infos_near fs g.1)
 
 -- the entries are in order inside the module

@@ -22,13 +22,13 @@ use Rattle.readback.proofs.Passes.{no_steps, steps_push}
 use Rattle.readback.proofs.Progresses.{Progress}
 
 -- the frame register and offset of an info
-abbrev pub frame-number : Option SetFrameStep → ℕ
-frame-number None = 0
-frame-number (Some k) = k.register
+abbrev pub frame_number : Option SetFrameStep → ℕ
+frame_number None = 0
+frame_number (Some k) = k.register
 
-abbrev pub frame-place : Option SetFrameStep → ℕ
-frame-place None = 0
-frame-place (Some k) = k.offset
+abbrev pub frame_place : Option SetFrameStep → ℕ
+frame_place None = 0
+frame_place (Some k) = k.offset
 
 -- whether the codes so far set the frame
 abbrev set_after : List Step → Bool
@@ -36,16 +36,16 @@ set_after [] = false
 set_after (s ∷ ss) = set_after ss || sets_frame s
 
 module _ (f : Option SetFrameStep) where
-  meaning : (slot end : ℕ) (s : Step) → Framed f s → step_of_code (frame-number f) (frame-place f) (code slot end s) ≡ Ok (record_of s)
+  meaning : (slot end : ℕ) (s : Step) → Framed f s → step_of_code (frame_number f) (frame_place f) (code slot end s) ≡ Ok (record_of s)
   meaning slot end (Push k) h = refl
   meaning slot end (Allocate k) h = refl
-  meaning slot end (SetFrame k) h = ap (λ x. Ok (step-record 2 (frame-number x) (frame-place x))) h
+  meaning slot end (SetFrame k) h = ap (λ x. Ok (step-record 2 (frame_number x) (frame_place x))) h
   meaning slot end (Save k) h = refl
 
-  named : (used : Bool) (s : Step) → Fine used s → Framed f s → sets_frame s ≡ true → eqb (frame-number f) 0 ≡ false
+  named : (used : Bool) (s : Step) → Fine used s → Framed f s → sets_frame s ≡ true → eqb (frame_number f) 0 ≡ false
   named used (Push k) h g e = absurd (false≢true e)
   named used (Allocate k) h g e = absurd (false≢true e)
-  named used (SetFrame k) h g e = ap (λ x. eqb (frame-number x) 0) g ∙ kept_not_zero k.register h.0
+  named used (SetFrame k) h g e = ap (λ x. eqb (frame_number x) 0) g ∙ kept_not_zero k.register h.0
   named used (Save k) h g e = absurd (false≢true e)
 
   not_again : (s : Step) → Fine true s → sets_frame s ≡ false
@@ -78,8 +78,8 @@ module _ (all : Result (List Code) InfoFault) (f : Option SetFrameStep) where
     progress : Progress
     slot : ℕ
     done : List Code
-    left : Left all (frame-number f) progress slot tail done
-    steps : steps_of_codes (frame-number f) (frame-place f) done ≡ Ok (map record_of ss ++ qs)
+    left : Left all (frame_number f) progress slot tail done
+    steps : steps_of_codes (frame_number f) (frame_place f) done ≡ Ok (map record_of ss ++ qs)
     limit : from ≤ progress.limit
     set : progress.frame_set ≡ set_after ss
 
@@ -88,7 +88,7 @@ module _ (all : Result (List Code) InfoFault) (f : Option SetFrameStep) where
   one used s ss end tail qs h w =
       let d = decodes w.slot end used s tail h.0 in
       let c : Code = code w.slot end s in
-      let frame : ℕ = frame-number f in
+      let frame : ℕ = frame_number f in
       let new : Progress = record { limit = end; frame_set = w.progress.frame_set || sets_frame s } in
       let long : 2 ≤ length (step_code end s ++ tail) = omega (arith, length-append (step_code end s) tail, d.size, d.some) in
       let free : (sets_frame s ≡ true → (w.progress.frame_set ≡ false) × (eqb frame 0 ≡ false)) =
@@ -99,7 +99,7 @@ module _ (all : Result (List Code) InfoFault) (f : Option SetFrameStep) where
         slot = w.slot + d.used;
         done = w.done ++ c ∷ [];
         left = subst (λ l. Left all frame new (w.slot + d.used) l (w.done ++ c ∷ [])) (drop_at (step_code end s) tail (2 * d.used) (sym d.size)) more;
-        steps = steps_push frame (frame-place f) w.done c (map record_of ss ++ qs) (record_of s) w.steps (meaning f w.slot end s h.1);
+        steps = steps_push frame (frame_place f) w.done c (map record_of ss ++ qs) (record_of s) w.steps (meaning f w.slot end s h.1);
         limit = omega arith;
         set = ap (λ b. b || sets_frame s) w.set;
       }
@@ -107,24 +107,24 @@ module _ (all : Result (List Code) InfoFault) (f : Option SetFrameStep) where
   lower : (ss : List Step) (from end : ℕ) (tail : List ℕ) (qs : List StepRecord) → from ≤ end → Walked ss end tail qs → Walked ss from tail qs
   lower ss from end tail qs h w = record { progress = w.progress; slot = w.slot; done = w.done; left = w.left; steps = w.steps; limit = omega (arith, h, w.limit); set = w.set }
 
-  walk : (used : Bool) (from : ℕ) (ss : List Step) (tail : List ℕ) (p : Progress) (slot : ℕ) (done : List Code) (qs : List StepRecord) → Fines f used ss → Left all (frame-number f) p slot (codes from ss ++ tail) done →
-      steps_of_codes (frame-number f) (frame-place f) done ≡ Ok qs → p.frame_set ≡ false → from + length (bytes (enter ss)) ≤ p.limit → Walked ss from tail qs
+  walk : (used : Bool) (from : ℕ) (ss : List Step) (tail : List ℕ) (p : Progress) (slot : ℕ) (done : List Code) (qs : List StepRecord) → Fines f used ss → Left all (frame_number f) p slot (codes from ss ++ tail) done →
+      steps_of_codes (frame_number f) (frame_place f) done ≡ Ok qs → p.frame_set ≡ false → from + length (bytes (enter ss)) ≤ p.limit → Walked ss from tail qs
   unfolding codes bytes forward
   walk used from [] tail p slot done qs h l a b room = record { progress = p; slot = slot; done = done; left = l; steps = a; limit = omega arith; set = b }
   walk used from (s ∷ ss) tail p slot done qs h l a b room =
       let size : ℕ = length (encode (step_instruction s)) in
       let end : ℕ = from + size in
-      let l' = subst (λ bs. Left all (frame-number f) p slot bs done) (append_assoc (codes end ss) (step_code end s) tail) l in
+      let l' = subst (λ bs. Left all (frame_number f) p slot bs done) (append_assoc (codes end ss) (step_code end s) tail) l in
       let room' : end + length (bytes (enter ss)) ≤ p.limit = omega (arith, room, length-append (encode (step_instruction s)) (bytes (enter ss))) in
       lower (s ∷ ss) from end tail qs (omega arith) (one used s ss end tail qs h (walk (used || sets_frame s) end ss (step_code end s ++ tail) p slot done qs h.2 l' a b room'))
 
 -- the codes of a function's steps are good, and mean the steps
-pub walked : (f : Option SetFrameStep) (ss : List Step) (prologue : ℕ) → Fines f false ss → length (bytes (enter ss)) ≤ prologue → bind (codes_of prologue (frame-number f) (codes 0 ss)) (steps_of_codes (frame-number f) (frame-place f)) ≡ Ok (map record_of ss)
+pub walked : (f : Option SetFrameStep) (ss : List Step) (prologue : ℕ) → Fines f false ss → length (bytes (enter ss)) ≤ prologue → bind (codes_of prologue (frame_number f) (codes 0 ss)) (steps_of_codes (frame_number f) (frame_place f)) ≡ Ok (map record_of ss)
 walked f ss prologue h room =
-    let all = codes_of prologue (frame-number f) (codes 0 ss) in
-    let begin = subst (λ bs. Left all (frame-number f) (before_codes prologue) 0 bs []) (sym (append-nil (codes 0 ss))) (start prologue (frame-number f) (codes 0 ss)) in
-    let w = walk all f false 0 ss [] (before_codes prologue) 0 [] [] h begin (no_steps (frame-number f) (frame-place f)) refl (omega arith) in
-    ap (λ r. bind r (steps_of_codes (frame-number f) (frame-place f))) (ended w.left (omega arith)) ∙ w.steps ∙ ap Ok (append-nil (map record_of ss))
+    let all = codes_of prologue (frame_number f) (codes 0 ss) in
+    let begin = subst (λ bs. Left all (frame_number f) (before_codes prologue) 0 bs []) (sym (append-nil (codes 0 ss))) (start prologue (frame_number f) (codes 0 ss)) in
+    let w = walk all f false 0 ss [] (before_codes prologue) 0 [] [] h begin (no_steps (frame_number f) (frame_place f)) refl (omega arith) in
+    ap (λ r. bind r (steps_of_codes (frame_number f) (frame_place f))) (ended w.left (omega arith)) ∙ w.steps ∙ ap Ok (append-nil (map record_of ss))
 
 -- their slots are whole, and at most three for each step
 pub slots_whole : (f : Option SetFrameStep) (used : Bool) (from : ℕ) (ss : List Step) → Fines f used ss → (n : ℕ) × (2 * n ≡ length (codes from ss)) × (n ≤ 3 * length ss)

@@ -1,6 +1,6 @@
 use Rattle.std.proofs.Common.{◌^◌, ◌<◌, length, refl, arith, rules}
 use Rattle.plan.proofs.Passes.{lists_fit}
-use Rattle.compile.proofs.Filling.{written_none, few-steps, next_sound, gap_room, function_room, bounds, entry_room, info_room, written_on, written_all}
+use Rattle.compile.proofs.Filling.{written_none, few_steps, next_sound, gap_room, function_room, bounds, entry_room, info_room, written_on, written_all}
 use Rattle.compile.proofs.writing.write_module.Goals as goal
 
 pub loop-k-init : goal.loop-k-init
@@ -35,7 +35,7 @@ pub write_info-info-requires : goal.write_info-info-requires
 write_info-info-requires c = (
   next_sound c.loop-k.invariant _ _ _ c.loop-k-test.true c.part-own_steps.ensures c.part-own_operations.ensures,
   (
-    few-steps c.loop-k.invariant _ _ _ c.loop-k-test.true c.part-own_steps.ensures c.part-own_operations.ensures,
+    few_steps c.loop-k.invariant _ _ _ c.loop-k-test.true c.part-own_steps.ensures c.part-own_operations.ensures,
     info_room c.loop-k.invariant _ _ _ c.loop-k-test.true c.part-own_steps.ensures c.part-own_operations.ensures _ _ refl refl _ c.up16-begin.ensures c.requires.few _ _ c.write_gap-from.ensures.after c.write_gap-from.ensures.end _ _ _ c.write_function-to.ensures.after c.write_function-to.ensures.end refl,
   ),
 )
