@@ -31,7 +31,9 @@ fn run(rt: &HostRuntime) -> anyhow::Result<()> {
         (None, None, None, None, None) => show_all(rt),
         (Some(word), Some(table), Some(infos), Some(start), Some(size)) => {
             if word.as_str() != "table" {
-                return Err(anyhow!("{USAGE}"));
+                // An error holds 120 bytes of text, too few for the usage.
+                eprintln!(rt; "{USAGE}")?;
+                return Err(anyhow!("{word} is no command"));
             }
             show_files(
                 rt,
