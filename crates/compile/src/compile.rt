@@ -2,7 +2,7 @@
 ghost use Rattle.std.specs.Prelude.{◌≡◌, ℕ, length, is_ok, if◌then◌else◌};
 ghost use Rattle.layout.specs.Words.{overwritten};
 ghost use Rattle.plan.specs.Functions.{text_of, functions_of};
-ghost use Rattle.plan.specs.Layouts.{code as code_of_lem, infos as infos_of, table as table_of};
+ghost use Rattle.plan.specs.Layouts.{code as code_of, infos as infos_of, table as table_of};
 ghost use Rattle.plan.specs.Refusals.{told};
 ghost use Rattle.compile.specs.Compilings.{room_verdict, compiling};
 
@@ -40,7 +40,7 @@ pub fn compile(
     table: &mut [u8],
 ) -> Result<Lengths, PlanRefusal>
     ensures answer { told result ≡ compiling (text_of plan.now) (length code.old) (length infos.old) (length table.old) }
-    ensures code { code.new ≡ (if is_ok result then overwritten code.old 0 (code_of_lem (functions_of (text_of plan.now))) else code.old) }
+    ensures code { code.new ≡ (if is_ok result then overwritten code.old 0 (code_of (functions_of (text_of plan.now))) else code.old) }
     ensures infos { infos.new ≡ (if is_ok result then overwritten infos.old 0 (infos_of (functions_of (text_of plan.now))) else infos.old) }
     ensures table { table.new ≡ (if is_ok result then overwritten table.old 0 (table_of (functions_of (text_of plan.now))) else table.old) }
 {

@@ -2,7 +2,7 @@
 ghost use Rattle.std.specs.Prelude.{◌≡◌, ℕ, ◌+◌, ◌-◌, ◌*◌, ◌^◌, ◌<◌, ◌≤◌, List, map, length, replicate, Ok};
 ghost use Rattle.layout.specs.Words.{overwritten};
 ghost use Rattle.plan.specs.Functions.{functions_in};
-ghost use Rattle.plan.specs.Layouts.{entry, code as code_of_lem, infos as infos_of, table as table_of};
+ghost use Rattle.plan.specs.Layouts.{entry, code as code_of, infos as infos_of, table as table_of};
 ghost use Rattle.compile.specs.Writables.{Writable};
 
 use crate::info::write_info;
@@ -47,7 +47,7 @@ pub(crate) fn write_module(
     table: &mut [u8],
 )
     requires { Writable functions.now steps.now operations.now starts.now rva code.old infos.old table.old }
-    ensures code { code.new ≡ overwritten code.old 0 (code_of_lem (functions_in functions.now steps.now operations.now)) }
+    ensures code { code.new ≡ overwritten code.old 0 (code_of (functions_in functions.now steps.now operations.now)) }
     ensures infos { infos.new ≡ overwritten infos.old 0 (infos_of (functions_in functions.now steps.now operations.now)) }
     ensures table { table.new ≡ overwritten table.old 0 (table_of (functions_in functions.now steps.now operations.now)) }
 {

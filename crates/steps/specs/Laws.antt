@@ -124,7 +124,7 @@ module _ (f o : ℕ) (s : State) (p : preserved f ≡ true) (l : f < 16) (small 
 
 -- a later state shows the words above RSP that were there
 seen_at : {but : ℕ → Bool} (e t : State) (o : ℕ) → e.low ≤ rsp e → Later but e t → word t (rsp t + o) ≡ word e (rsp e + o)
-seen_at e t o in_area_lem later =
+seen_at e t o in_area later =
     let i : ℕ = rsp e - e.low in
     let place : rsp t + o - t.low ≡ i + o = omega (arith, later.1, later.2) in
     let there : rsp e + o - e.low ≡ i + o = omega arith in
