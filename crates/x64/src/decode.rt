@@ -6,7 +6,7 @@ ghost use Rattle.x64.specs.Laws.{Form};
 ghost use Rattle.x64.specs.declared.instruction.Instruction.{Instruction};
 
 use crate::instruction::Instruction;
-use layout::word::read_u32;
+use layout::word::word_at;
 
 // The byte at `at`, and 0 past the end.
 fn byte_at(bytes: &[u8], at: usize) -> u8
@@ -29,7 +29,7 @@ fn displacement_at(wide: bool, bytes: &[u8], at: usize) -> Option<(u32, usize)>
     ensures { result ≡ displaced wide bytes.now at }
 {
     if wide {
-        Some((read_u32(bytes, at)?, at + 4))
+        Some((word_at(bytes, at)?, at + 4))
     } else {
         Some((extend(*bytes.get(at)?), at + 1))
     }

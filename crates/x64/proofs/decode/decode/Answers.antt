@@ -1,5 +1,4 @@
-use Rattle.std.proofs.Common.{◌≡◌, ℕ, ◌-◌, ◌<◌, ◌≤◌, Bool, true, ◌⊎◌, List, ◌++◌, length, get_or, Some, Option, sym, refl, ap, ◌∙◌, inl, inr, ⊎_elim, arith, rules}
-use Rattle.std.proofs.lemmas.Grind.{common_steps}
+use Rattle.std.proofs.Common.{◌≡◌, ℕ, ◌-◌, ◌<◌, ◌≤◌, Bool, true, ◌⊎◌, List, ◌++◌, length, get_or, Some, Option, sym, ap, ◌∙◌, arith, rules}
 use Rattle.x64.specs.Decodings.{rexed, ending, plain, upper_plain, decoded}
 use Rattle.x64.specs.Encodings.{encode_as, well_formed}
 use Rattle.x64.specs.Laws.{Form}
