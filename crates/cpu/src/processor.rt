@@ -59,6 +59,16 @@ impl<'a> Area<'a> {
         self.low <= at && size >= 8 && at - self.low <= size - 8
     }
 
+    fn may_access(self, access: Option<Access>) -> bool
+        ensures { result ≡ accessible access self.entry.low (length self.entry.bytes.now) }
+    {
+        // By a match: a closure that takes `self` along would need a clause of its own.
+        match access {
+            Some(a) => self.holds(a.at()),
+            None => true,
+        }
+    }
+
     // The word at an address, which lies in the area.
     fn word(self, at: u64) -> u64
         requires { holds_word self.low (length self.bytes.now) at ≡ true }
@@ -95,16 +105,6 @@ impl<'a> Processor<'a> {
         Area {
             low: self.low,
             bytes: self.stack,
-        }
-    }
-
-    fn may_access(&self, access: Option<Access>) -> bool
-        ensures { result ≡ accessible access self.now.low (length self.now.stack.now) }
-    {
-        // By a match: a closure that takes `self` along would need a clause of its own.
-        match access {
-            Some(a) => self.area().holds(a.at()),
-            None => true,
         }
     }
 
@@ -146,7 +146,8 @@ impl<'a> Processor<'a> {
         ensures answer { result_map_both (λ x. x) stack_number result ≡ (if permitted intent self.old.low (length self.old.stack.now) then Ok tt else Err 62) }
         ensures after { self.new ≡ (if is_ok result then in_state self.old (performed intent (state_of self.old)) else self.old) }
     {
-        if !self.may_access(intent.access) || !self.area().may_stand(intent.rsp) {
+        let area = self.area();
+        if !area.may_access(intent.access) || !area.may_stand(intent.rsp) {
             return Err(OutsideStack);
         }
         self.make_change(intent.change);
