@@ -1,6 +1,5 @@
-use Rattle.std.proofs.Common.{rules, ◌≡◌, true, false, Bool, ltb, leb, sym, ap, ◌∙◌, refl, subst}
+use Rattle.std.proofs.Common.{rules, ltb, sym, ◌∙◌}
 use Rattle.std.proofs.lemmas.Fn.{always_returns_same}
-use Rattle.std.specs.List.{list_all}
 use Rattle.records.proofs.Search.{ordered, unordered}
 use Rattle.records.proofs.span.ascends.Goals as goal
 

@@ -1,7 +1,6 @@
-use Rattle.std.proofs.Common.{rules, ◌≡◌, sym, ap, ◌∙◌, refl, subst}
+use Rattle.std.proofs.Common.{rules, ◌∙◌}
 use Rattle.std.proofs.lemmas.Fn.{always_returns_same}
 use Rattle.std.specs.List.Sorted.{IsBinarySearchResult}
-use Rattle.std.specs.Option.{IfSome}
 use Rattle.records.proofs.Search.{searched, holds_key}
 use Rattle.records.specs.Spans.{side}
 use Rattle.records.proofs.span.find.Goals as goal
