@@ -66,14 +66,26 @@ impl DumpRange {
     }
 }
 
+fn all_within(ranges: &[DumpRange], size: u64) -> bool
+    ensures { result ≡ list_all (within size) ranges.now }
+{
+    ranges.iter().all(|range| range.is_within(size))
+}
+
+fn all_reach(ranges: &[DumpRange]) -> bool
+    ensures { result ≡ list_all reaches ranges.now }
+{
+    ranges.iter().all(|range| range.does_reach())
+}
+
 // Whether the ranges make a dump over a run of `size` bytes: first 20 for every range, then 21.
 pub fn check_ranges(ranges: &[DumpRange], size: u64) -> Result<(), SourceRefusal>
     ensures { result_map_both (λ x. x) source_number result ≡ source_verdict ranges.now size }
 {
-    if !ranges.iter().all(|range| range.is_within(size)) {
+    if !all_within(ranges, size) {
         return Err(SourceRefusal::OutsideRun);
     }
-    if !ranges.iter().all(|range| range.does_reach()) || !ascends(ranges) {
+    if !all_reach(ranges) || !ascends(ranges) {
         return Err(SourceRefusal::Disorder);
     }
     Ok(())

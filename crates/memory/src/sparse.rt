@@ -50,7 +50,9 @@ impl<'a> Memory for SparseDump<'a> {
     ghost shows = { λ s. sparse_map s.ranges.now s.bytes.now };
 
     fn read(&mut self, at: Address) -> Result<u8, Lacking> {
-        let i = find(self.ranges, at).ok_or(Lacking { at })?;
+        let Some(i) = find(self.ranges, at) else {
+            return Err(Lacking { at });
+        };
         let range = self.ranges[i];
         let far = at.0 - range.start.0;
         Ok(self.bytes[(range.place + far) as usize])

@@ -17,13 +17,21 @@ told s at o finds =
     ap (λ b. answer b at) (shown_by_found rs bytes at.0 ∙ ap (byte_of rs bytes at.0) (sym f))
 
 pub overflow_add-result : goal.overflow_add-result
-overflow_add-result c = ?
+overflow_add-result c =
+    let s = c.args.self.now in
+    let f = c.in-Some.ensures.inside in
+    let d : DumpRange = record { start = record { 0 = 0 }; length = 0; place = 0 } in
+    omega (arith, in_run s.ranges.now (length s.bytes.now) s.ok c.in-Some.i c.args.at.0 d f.0 (f.1 d).0 (f.1 d).1)
 
 pub bounds-self-range : goal.bounds-self-range
-bounds-self-range c = ?
-
-pub returns-in_err-i : goal.returns-in_err-i
-returns-in_err-i c = ?
+bounds-self-range c =
+    let s = c.args.self.now in
+    let f = c.in-Some.ensures.inside in
+    let d : DumpRange = record { start = record { 0 = 0 }; length = 0; place = 0 } in
+    in_run s.ranges.now (length s.bytes.now) s.ok c.in-Some.i c.args.at.0 d f.0 (f.1 d).0 (f.1 d).1
 
 pub returns : goal.returns
-returns c = ?
+returns c = record { answer = sym (told c.args.self.now c.args.at (Some c.in-Some.i) c.in-Some.ensures.finds); same = refl }
+
+pub returns-in_default : goal.returns-in_default
+returns-in_default c = record { answer = sym (told c.args.self.now c.args.at None (λ a. sym c.in_default.is ∙ c.find.ensures.finds a)); same = refl }
