@@ -54,8 +54,7 @@ pub fn push_hex(line: &mut Vec<u8>, n: u128) -> Result<(), AllocError>
     ensures back { OnOk result ((limit : ℕ) → n < limit → number_of limit (hexadecimal n) ≡ Ok n) }
 {
     line.extend_from_slice(b"0x")?;
-    push_figures(line, 16, n)?;
-    Ok(())
+    push_figures(line, 16, n)
 }
 
 fn push_pairs(line: &mut Vec<u8>, bytes: &[u8]) -> Result<(), AllocError>
@@ -77,6 +76,5 @@ pub fn push_bytes(line: &mut Vec<u8>, bytes: &[u8]) -> Result<(), AllocError>
         line.push(b'-')?;
         return Ok(());
     }
-    push_pairs(line, bytes)?;
-    Ok(())
+    push_pairs(line, bytes)
 }

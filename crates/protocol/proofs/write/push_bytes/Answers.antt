@@ -1,7 +1,8 @@
-use Rattle.std.proofs.Common.{◌≡◌, eqb, [], ◌∷◌, length, sym, ◌∙◌, arith}
+use Rattle.std.proofs.Common.{◌≡◌, eqb, [], ◌∷◌, ◌++◌, length, vec_items, sym, ◌∙◌, arith}
 use Rattle.std.proofs.lemmas.Bool.{cond-true, cond-false}
+use Rattle.std.proofs.lemmas.Result.{IfOk-equal}
 use Rattle.protocol.specs.Strings.{pairs, string_of}
-use Rattle.protocol.proofs.Back.{string_back}
+use Rattle.protocol.proofs.Back.{made_always, string_back}
 use Rattle.protocol.proofs.write.push_bytes.Goals as goal
 
 pub returns-then-is_empty : goal.returns-then-is_empty
@@ -15,5 +16,7 @@ pub returns : goal.returns
 returns c =
     let bytes = c.args.bytes.now in
     let some : string_of bytes ≡ pairs bytes = cond-false (eqb (length bytes) 0) (45 ∷ []) (pairs bytes) (sym c.is_empty.ensures ∙ c.if-is_empty.false) in
-    let items = c.in_ok-push_pairs.ensures in
-    record { text = cc; back = string_back bytes (λ i. omega (arith, c.type_inv.bytes i)) }
+    record {
+      text = IfOk-equal c.push_pairs.result _ _ (vec_items c.args.line.now ++ string_of bytes) c.push_pairs.ensures (cc);
+      back = made_always c.push_pairs.result _ (λ _. string_back bytes (λ i. omega (arith, c.type_inv.bytes i)))
+    }
