@@ -2,4 +2,3 @@ pub mod Back
 pub mod Digits
 pub mod Numbers
 pub mod Pairs
-pub mod Passes

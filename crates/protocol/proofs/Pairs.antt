@@ -30,14 +30,3 @@ chunk_hex (suc k) zero (a ∷ b ∷ bs) h low all =
 chunk_hex (suc k) (suc i) (a ∷ b ∷ bs) h low all =
     let first = and_parts (is_hex a) (list_all is_hex (b ∷ bs)) all in
     chunk_hex k i bs (omega arith) (omega arith) (and_parts (is_hex b) (list_all is_hex bs) first.1).1
-
--- one more byte written
-pub pairs_more : (bs done : List ℕ) (i : ℕ) → i < length bs → ((done ++ digit_char (get_or bs i 0 / 16) ∷ []) ++ digit_char (get_or bs i 0 % 16) ∷ []) ++ pairs (drop (i + 1) bs) ≡ done ++ pairs (drop i bs)
-pairs_more bs done i h =
-    let high = digit_char (get_or bs i 0 / 16) in
-    let low = digit_char (get_or bs i 0 % 16) in
-    let rest = pairs (drop (i + 1) bs) in
-    append_assoc (done ++ high ∷ []) (low ∷ []) rest ∙ append_assoc done (high ∷ []) (low ∷ rest) ∙ ap (λ ds. done ++ ds) (sym (at_drop_more pairs bs i 0 h))
-
-pub pairs_all : (bs done old : List ℕ) (i : ℕ) → length bs ≤ i → done ++ pairs (drop i bs) ≡ old ++ pairs bs → done ≡ old ++ pairs bs
-pairs_all bs done old i h is = sym (append-nil done) ∙ ap (λ ds. done ++ ds) (sym (at_drop_all pairs bs i h)) ∙ is
