@@ -1,12 +1,10 @@
 -- The numbers of a record, one by one.
-use Rattle.std.proofs.Common.{◌≡◌, ℕ, suc, ◌+◌, ◌-◌, ◌^◌, ◌<◌, ◌≤◌, cond, List, [], ◌∷◌, ◌++◌, is_some, Some, None, Ok, Err, Option, Result, sym, refl, ap, ◌∙◌, subst, append_assoc, append-nil, arith}
-use native.Mathlib.Nat.{sub-zero}
-use Rattle.std.specs.Option.{option_map}
+use Rattle.std.proofs.Common.{◌≡◌, ℕ, suc, ◌+◌, ◌-◌, ◌^◌, ◌<◌, List, [], ◌∷◌, ◌++◌, Some, None, Ok, Err, Option, Result, sym, refl, ap, ◌∙◌, subst, append_assoc, arith}
 use Rattle.protocol.specs.Cuts.{front, Handed}
 use Rattle.protocol.specs.Reading.{number_of}
 use Rattle.protocol.specs.Records.{followed, numbers_of}
 use Rattle.protocol.specs.declared.bad.Bad.{Bad}
-use Rattle.protocol.specs.declared.bad.Bad.TheVariants.{MissingPart, ExtraPart}
+use Rattle.protocol.specs.declared.bad.Bad.TheVariants.{MissingPart}
 
 -- some numbers before those that are still read
 abbrev pub preceded : List ℕ → Result (List ℕ) Bad → Result (List ℕ) Bad

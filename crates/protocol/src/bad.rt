@@ -31,6 +31,7 @@ pub enum Bad {
     NoMemory,
 }
 
+// Both are written out, since clauses name the error that `?` makes, and a derived `From` has no contract.
 impl From<AllocError> for Bad {
     ghost from_gives = { λ _ r. r ≡ NoMemory };
 

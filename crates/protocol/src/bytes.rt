@@ -8,7 +8,7 @@ use crate::bad::Bad;
 use crate::parts::is_dash;
 use std::alloc::Global;
 
-// The value of a digit.
+// The value of a digit. The library's `to_digit` would take upper case too.
 fn nibble(b: u8) -> Option<u8>
     ensures { result ≡ (if is_hex b then Some (nibble_of b) else None) }
 {

@@ -1,6 +1,7 @@
 // Numbers: decimal, or hexadecimal after `0x`, with digits of either case; signed ones may have `-` in front.
-ghost use Rattle.std.specs.Prelude.{◌≡◌, ℕ, ◌+◌, ◌-◌, ◌^◌, ◌≤◌, IfOk, MatchResult};
+ghost use Rattle.std.specs.Prelude.{◌≡◌, ℕ, ◌+◌, ◌-◌, ◌^◌, ◌≤◌, IfOk};
 ghost use Rattle.std.specs.List.{list_all};
+ghost use Rattle.std.specs.Result.{result_map_both};
 ghost use Rattle.protocol.specs.Reading.{is_digit, numeral_of, number_of, signed_of};
 
 use crate::bad::Bad;
@@ -40,7 +41,7 @@ fn number_up_to(text: &[u8], most: u128) -> Result<u128, Bad>
     }
 }
 
-// The unsigned types, which a number is read into.
+// The unsigned types that a number is read as. The library's `TryFrom` takes no number of 128 bits.
 pub trait Unsigned {
     ghost MOST: { ℕ };
 
@@ -117,13 +118,13 @@ impl Unsigned for u128 {
 
 // A number that `T` holds.
 pub fn number<T: Unsigned>(text: &[u8]) -> Result<T, Bad>
-    ensures { MatchResult result (λ n. number_of (T.MOST + 1) text.now ≡ Ok (T.value n)) (λ e. number_of (T.MOST + 1) text.now ≡ Err e) }
+    ensures { result_map_both T.value (λ e. e) result ≡ number_of (T.MOST + 1) text.now }
 {
     let n = number_up_to(text, T::MOST)?;
     Ok(T::narrowed(n))
 }
 
-// A signed number of 32 bits, negative after `-`.
+// A signed number of 32 bits, negative after `-`. The casts are proved, and `TryFrom` takes no number of 128 bits.
 pub fn signed_number(text: &[u8]) -> Result<i32, Bad>
     ensures { result ≡ signed_of text.now }
 {

@@ -8,7 +8,8 @@ ghost use Rattle.std.specs.Iterator.{at_most};
 use crate::bad::Bad;
 use std::marker::Model;
 
-// What is still to be cut: none once the last part was handed out.
+// What is still to be cut: none once the last part was handed out. The library's `split` has a closure in its type, which
+// no field can name.
 #[derive(Drop)]
 pub struct Parts<'a> {
     rest: Option<&'a [u8]>,
