@@ -1,8 +1,8 @@
 -- Codes one by one: what they come to, how many they are, and one turn of an iterator over them.
-use Rattle.std.proofs.Common.{◌≡◌, ℕ, zero, suc, ◌+◌, ◌*◌, ◌/◌, ◌%◌, ◌<◌, ◌≤◌, Bool, true, false, cond, leb, List, [], ◌∷◌, map, length, drop, get_or, is_ok, IfOk, Ok, Err, Result, sym, refl, ap, arith, ◌==◌}
+use Rattle.std.proofs.Common.{◌≡◌, ℕ, zero, suc, ◌+◌, ◌*◌, ◌/◌, ◌%◌, ◌<◌, ◌≤◌, Bool, true, false, cond, leb, List, [], ◌∷◌, map, length, drop, get_or, is_ok, IfOk, Ok, Err, Result, sym, refl, ap, ◌∙◌, arith, ◌==◌}
 use Rattle.std.proofs.lemmas.List.{length-drop, length-map}
 use Rattle.std.proofs.lemmas.Bool.{le-leb, lt-leb, leb-true, false≢true}
-use Rattle.infos.specs.Codes.{bind, width, decoded_in}
+use Rattle.infos.specs.Codes.{bind, width, meant, decoded_in}
 use Rattle.infos.specs.Codings.{codes_left}
 use Rattle.infos.specs.Listings.{listed}
 use Rattle.infos.specs.Refusals.{InfoFault, at_slot}
@@ -61,13 +61,13 @@ decoded_of (Err d) m c p l e = absurd (cc)
 decoded_some : (slot : ℕ) (bs : List ℕ) (p : Code × ℕ) → decoded_in slot bs ≡ Ok p → 1 ≤ p.1
 decoded_some slot bs p e = decoded_of _ (length bs) _ p (width_some (get_or bs 1 0 % 16) (get_or bs 1 0 / 16)) e
 
-agreed_of : (r : Result Progress InfoFault) (q : Code × ℕ) (p : (Code × ℕ) × Progress) → bind r (λ t. Ok (q, t)) ≡ Ok p → q.1 ≡ p.0.1
-agreed_of (Ok t) q p e = let u : ◌≡◌ {A = (Code × ℕ) × Progress} (q, t) p = cc in ap (λ x. x.0.1) u
-agreed_of (Err d) q p e = absurd (cc)
+agreed_code : (r : Result Progress InfoFault) (q : Code × ℕ) (p : (Code × ℕ) × Progress) → bind r (λ t. Ok (q, t)) ≡ Ok p → q ≡ p.0
+agreed_code (Ok t) q p e = let u : ◌≡◌ {A = (Code × ℕ) × Progress} (q, t) p = cc in ap (λ x. x.0) u
+agreed_code (Err d) q p e = absurd (cc)
 
 taken_of : (d : Result (Code × ℕ) ℕ) (slot : ℕ) (a : Code → Result Progress InfoFault) (p : (Code × ℕ) × Progress) → ((q : Code × ℕ) → d ≡ Ok q → 1 ≤ q.1) →
     bind (at_slot slot d) (λ q. bind (a q.0) (λ t. Ok (q, t))) ≡ Ok p → 1 ≤ p.0.1
-taken_of (Ok q) slot a p f e = omega (arith, f q refl, agreed_of (a q.0) q p e)
+taken_of (Ok q) slot a p f e = omega (arith, f q refl, ap (λ x. x.1) (agreed_code (a q.0) q p e))
 taken_of (Err d) slot a p f e = absurd (cc)
 
 taken_some : (frame : ℕ) (s : Progress) (slot : ℕ) (bs : List ℕ) (p : (Code × ℕ) × Progress) → taken frame s slot bs ≡ Ok p → 1 ≤ p.0.1
@@ -179,3 +179,47 @@ good_first (c ∷ rest) r rs e = (c, rest, refl, (let d = sym e in cc), (let d =
 
 pub good_length : (cs : List Code) → length (map {B = Result Code InfoFault} Ok cs) ≡ length cs
 good_length cs = length-map {B = Result Code InfoFault} cs Ok
+
+-- ---- a code that comes next has the first slot that is left
+followed_first : (r : Result ((Code × ℕ) × Progress) InfoFault) (f : (Code × ℕ) × Progress → List (Result Code InfoFault)) (x : Code) (rest : List (Result Code InfoFault)) → followed r f ≡ Ok x ∷ rest →
+    (p : (Code × ℕ) × Progress) × (r ≡ Ok p) × (p.0.0 ≡ x)
+followed_first (Ok p) f x rest e = (p, refl, cc)
+followed_first (Err d) f x rest e = absurd (cc)
+
+some_where : (b : Bool) (xs : List (Result Code InfoFault)) (x : Code) (rest : List (Result Code InfoFault)) → cond b xs [] ≡ Ok x ∷ rest → xs ≡ Ok x ∷ rest
+some_where true xs x rest e = e
+some_where false xs x rest e = absurd (cc)
+
+taken_decoded : (d : Result (Code × ℕ) ℕ) (slot : ℕ) (a : Code → Result Progress InfoFault) (p : (Code × ℕ) × Progress) → bind (at_slot slot d) (λ q. bind (a q.0) (λ t. Ok (q, t))) ≡ Ok p → d ≡ Ok p.0
+taken_decoded (Ok q) slot a p e = ap Ok (agreed_code (a q.0) q p e)
+taken_decoded (Err d) slot a p e = absurd (cc)
+
+-- a decoded code has the slot that it was decoded at
+abbrev slot_in : Result (Code × ℕ) ℕ → ℕ → ℕ
+slot_in (Ok p) d = p.0.slot
+slot_in (Err e) d = d
+
+slot_if : (b : Bool) (x : Code) (n : ℕ) → slot_in (cond b (Ok (x, n)) (Err 44)) x.slot ≡ x.slot
+slot_if true x n = refl
+slot_if false x n = refl
+
+slot_of : (w : Result ℕ ℕ) (b : ℕ → Bool) (x : Code) → slot_in (bind w (λ n. cond (b n) (Ok (x, n)) (Err 44))) x.slot ≡ x.slot
+slot_of (Ok n) b x = slot_if (b n) x n
+slot_of (Err d) b x = refl
+
+decoded-slot : (slot : ℕ) (bs : List ℕ) (p : Code × ℕ) → decoded_in slot bs ≡ Ok p → p.0.slot ≡ slot
+decoded-slot slot bs p e =
+    let op : ℕ = get_or bs 1 0 % 16 in
+    let info : ℕ = get_or bs 1 0 / 16 in
+    ap (λ r. slot_in r slot) (sym e) ∙ slot_of (width op info) (λ n. leb (2 * n) (length bs)) (record { slot = slot; offset = get_or bs 0 0; operation = meant op info bs })
+
+slot_at : (k frame : ℕ) (s : Progress) (slot : ℕ) (bs : List ℕ) (x : Code) (rest : List (Result Code InfoFault)) → outcomes k frame s slot bs ≡ Ok x ∷ rest → x.slot ≡ slot
+unfolding outcomes
+slot_at zero frame s slot bs x rest e = absurd (cc)
+slot_at (suc k) frame s slot bs x rest e =
+    let f = followed_first (taken frame s slot bs) _ x rest (some_where (leb 2 (length bs)) _ x rest e) in
+    let d = taken_decoded (decoded_in slot bs) slot (λ c. at_slot slot (admitted frame s c)) f.0 f.1 in
+    ap (λ c. c.slot) (sym f.2) ∙ decoded-slot slot bs f.0.0 d
+
+pub first_slot : (c : Codes) (x : Code) (rest : List (Result Code InfoFault)) → codes_left c ≡ Ok x ∷ rest → x.slot ≡ c.slot
+first_slot c x rest e = slot_at (length c.slots.now) c.frame c.sofar c.slot c.slots.now x rest e
