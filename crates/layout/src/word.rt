@@ -1,5 +1,6 @@
 // Little-endian words in a byte slice, one set of functions for every width.
 ghost use Rattle.std.specs.Prelude.{◌≡◌, ℕ, ◌+◌, ◌^◌, ◌<◌, ◌≤◌, T, length, is_ok, if◌then◌else◌, Some, nat_le};
+ghost use Rattle.std.proofs.Common.{rules};
 ghost use Rattle.std.specs.Option.{option_map};
 ghost use Rattle.layout.specs.Words.{le_value, le_bytes, le_at, word_at, with_word, overwritten};
 
@@ -13,6 +14,9 @@ pub trait Word<const N: usize>: Copy {
     fn le_bytes(self) -> [u8; N]
         ensures bytes { result ≡ le_bytes N (value self) }
         ensures bound { value self < 256 ^ N };
+
+    // An array of so many bytes can be lent as a slice.
+    ghost short: { N < 2 ^ 63 };
 }
 
 impl Word<2> for u16 {
@@ -30,6 +34,8 @@ impl Word<2> for u16 {
     {
         self.to_le_bytes()
     }
+
+    ghost short = { Prim.search rules };
 }
 
 impl Word<4> for u32 {
@@ -47,6 +53,8 @@ impl Word<4> for u32 {
     {
         self.to_le_bytes()
     }
+
+    ghost short = { Prim.search rules };
 }
 
 impl Word<8> for u64 {
@@ -64,6 +72,8 @@ impl Word<8> for u64 {
     {
         self.to_le_bytes()
     }
+
+    ghost short = { Prim.search rules };
 }
 
 impl Word<16> for u128 {
@@ -81,6 +91,8 @@ impl Word<16> for u128 {
     {
         self.to_le_bytes()
     }
+
+    ghost short = { Prim.search rules };
 }
 
 // Whether `width` bytes lie in `size` from `at` on.

@@ -18,7 +18,7 @@ impl<'a> FlatImage<'a> {
     pub fn new(start: Address, bytes: &'a [u8]) -> Result<FlatImage<'a>, SourceRefusal>
         ensures { MatchResult result (λ f. (flat_verdict start.0 bytes.now ≡ Ok tt) × (f.start ≡ start) × (f.bytes.now ≡ bytes.now)) (λ e. flat_verdict start.0 bytes.now ≡ Err (source_number e)) }
     {
-        if bytes.len() == 0 {
+        if bytes.is_empty() {
             return Err(SourceRefusal::OutsideRun);
         }
         if u64::MAX - start.0 < bytes.len() as u64 - 1 {

@@ -8,6 +8,7 @@ ghost use Rattle.memory.specs.declared.item.ItemFault.TheVariants.{Unread};
 use crate::reading::{Lacking, Memory};
 use layout::address::Address;
 use layout::refusal::Numbered;
+use layout::word::Word;
 
 // What stops the reading of an item.
 #[derive(Clone, Copy, PartialEq, Eq, Debug)]
@@ -42,11 +43,8 @@ fn read_byte<M: Memory>(m: &mut M, start: Address, i: u64) -> Result<u8, ItemFau
     ensures answer { result_map_both (λ x. x) item_fault result ≡ item_byte (M.shows m.old) start.0 i }
     ensures same { M.shows m.new ≡ M.shows m.old }
 {
-    let Some(at) = start.0.checked_add(i) else {
-        return Err(ItemFault::PastEnd(start));
-    };
-    let b = m.read(Address(at))?;
-    Ok(b)
+    let at = start.0.checked_add(i).ok_or(ItemFault::PastEnd(start))?;
+    Ok(m.read(Address(at))?)
 }
 
 // Fills `out` with the bytes of the item that starts at `start`.
@@ -54,29 +52,21 @@ fn read_bytes<M: Memory>(m: &mut M, start: Address, out: &mut [u8]) -> Result<()
     ensures answer { result_map_both (λ _. out.new) item_fault result ≡ item_bytes (M.shows m.old) start.0 (length out.old) }
     ensures same { M.shows m.new ≡ M.shows m.old }
 {
-    for i in 0..out.len() {
-        let b = read_byte(m, start, i as u64)?;
-        out[i] = b;
+    for (i, byte) in out.iter_mut().enumerate() {
+        *byte = read_byte(m, start, i as u64)?;
     }
     Ok(())
 }
 
-// The 8 bytes from `start` on, as a number.
-pub fn read_word<M: Memory>(m: &mut M, start: Address) -> Result<u64, ItemFault>
-    ensures answer { result_map_both (λ x. x) item_fault result ≡ item 8 (M.shows m.old) start.0 }
+// The `N` bytes from `start` on, as a number.
+pub fn read_item<const N: usize, W: Word<N>, M: Memory>(
+    m: &mut M,
+    start: Address,
+) -> Result<W, ItemFault>
+    ensures answer { result_map_both W.value item_fault result ≡ item N (M.shows m.old) start.0 }
     ensures same { M.shows m.new ≡ M.shows m.old }
 {
-    let mut word = [0; 8];
-    read_bytes(m, start, &mut word)?;
-    Ok(u64::from_le_bytes(word))
-}
-
-// The 16 bytes from `start` on, as a number.
-pub fn read_xmm<M: Memory>(m: &mut M, start: Address) -> Result<u128, ItemFault>
-    ensures answer { result_map_both (λ x. x) item_fault result ≡ item 16 (M.shows m.old) start.0 }
-    ensures same { M.shows m.new ≡ M.shows m.old }
-{
-    let mut xmm = [0; 16];
-    read_bytes(m, start, &mut xmm)?;
-    Ok(u128::from_le_bytes(xmm))
+    let mut bytes = [0; N];
+    read_bytes(m, start, &mut bytes)?;
+    Ok(W::of_le_bytes(bytes))
 }

@@ -17,22 +17,20 @@ pub struct DumpRange {
     pub place: u64,
 }
 
+// Why ranges make no dump, or bytes no image; each case is its number.
 #[derive(Clone, Copy, PartialEq, Eq, Debug)]
 pub enum SourceRefusal {
-    // 20: a range without bytes, or with bytes outside the run.
-    OutsideRun,
-    // 21: ranges out of order, overlapping, or past the last address.
-    Disorder,
+    // A range without bytes, or with bytes outside the run.
+    OutsideRun = 20,
+    // Ranges out of order, overlapping, or past the last address.
+    Disorder = 21,
 }
 
 impl Numbered for SourceRefusal {
     ghost number = { source_number };
 
     fn number(&self) -> u16 {
-        match self {
-            SourceRefusal::OutsideRun => 20,
-            SourceRefusal::Disorder => 21,
-        }
+        *self as u16
     }
 }
 
@@ -52,40 +50,32 @@ impl Span for DumpRange {
     }
 }
 
-// Whether the range has bytes, and all lie in a run of `size`.
-fn is_within(range: DumpRange, size: u64) -> bool
-    ensures { result ≡ within size range }
-{
-    0 < range.length && range.length <= size && range.place <= size - range.length
-}
+impl DumpRange {
+    // Whether the range has bytes, and all lie in a run of `size`.
+    fn is_within(self, size: u64) -> bool
+        ensures { result ≡ within size self }
+    {
+        0 < self.length && self.length <= size && self.place <= size - self.length
+    }
 
-// Whether the range ends at the last address or before.
-fn does_reach(range: DumpRange) -> bool
-    ensures { result ≡ reaches range }
-{
-    range.length == 0 || range.length - 1 <= u64::MAX - range.start.0
+    // Whether the range ends at the last address or before.
+    fn does_reach(self) -> bool
+        ensures { result ≡ reaches self }
+    {
+        self.length == 0 || self.length - 1 <= u64::MAX - self.start.0
+    }
 }
 
 fn all_within(ranges: &[DumpRange], size: u64) -> bool
     ensures { result ≡ list_all (within size) ranges.now }
 {
-    for range in ranges {
-        if !is_within(*range, size) {
-            return false;
-        }
-    }
-    true
+    ranges.iter().all(|range| range.is_within(size))
 }
 
 fn all_reach(ranges: &[DumpRange]) -> bool
     ensures { result ≡ list_all reaches ranges.now }
 {
-    for range in ranges {
-        if !does_reach(*range) {
-            return false;
-        }
-    }
-    true
+    ranges.iter().all(|range| range.does_reach())
 }
 
 // Whether the ranges make a dump over a run of `size` bytes: first 20 for every range, then 21.
@@ -95,10 +85,7 @@ pub fn check_ranges(ranges: &[DumpRange], size: u64) -> Result<(), SourceRefusal
     if !all_within(ranges, size) {
         return Err(SourceRefusal::OutsideRun);
     }
-    if !all_reach(ranges) {
-        return Err(SourceRefusal::Disorder);
-    }
-    if !ascends(ranges) {
+    if !all_reach(ranges) || !ascends(ranges) {
         return Err(SourceRefusal::Disorder);
     }
     Ok(())

@@ -1,5 +1,5 @@
 // A sparse dump: ascending ranges, each with its place in one run of bytes.
-ghost use Rattle.std.specs.Prelude.{◌≡◌, ℕ, true, [], length, is_ok, if◌then◌else◌};
+ghost use Rattle.std.specs.Prelude.{◌≡◌, ℕ, true, [], length, is_ok, if◌then◌else◌, Ok, Err, MatchResult};
 ghost use Rattle.std.specs.Result.{result_map_both};
 ghost use Rattle.memory.specs.Refusals.{source_number};
 ghost use Rattle.memory.specs.Sources.{source_verdict, sparse_map};
@@ -27,13 +27,12 @@ impl<'a> SparseDump<'a> {
         }
     }
 
-    // A dump of ranges that were checked.
-    fn of_checked(ranges: &'a [DumpRange], bytes: &'a [u8]) -> SparseDump<'a>
-        requires { is_ok (source_verdict ranges.now (length bytes.now)) ≡ true }
-        ensures ranges { result.ranges.now ≡ ranges.now }
-        ensures bytes { result.bytes.now ≡ bytes.now }
+    // Shows `ranges` over the run `bytes`. They are refused with 20 or 21.
+    pub fn new(ranges: &'a [DumpRange], bytes: &'a [u8]) -> Result<SparseDump<'a>, SourceRefusal>
+        ensures { MatchResult result (λ d. (source_verdict ranges.now (length bytes.now) ≡ Ok tt) × (d.ranges.now ≡ ranges.now) × (d.bytes.now ≡ bytes.now)) (λ e. source_verdict ranges.now (length bytes.now) ≡ Err (source_number e)) }
     {
-        SparseDump { ranges, bytes }
+        check_ranges(ranges, bytes.len() as u64)?;
+        Ok(SparseDump { ranges, bytes })
     }
 
     // Shows the ranges in place of what it showed; refused, it shows what it showed.
@@ -42,8 +41,7 @@ impl<'a> SparseDump<'a> {
         ensures ranges { self.new.ranges.now ≡ (if is_ok result then ranges.now else self.old.ranges.now) }
         ensures bytes { self.new.bytes.now ≡ (if is_ok result then bytes.now else self.old.bytes.now) }
     {
-        check_ranges(ranges, bytes.len() as u64)?;
-        *self = SparseDump::of_checked(ranges, bytes);
+        *self = SparseDump::new(ranges, bytes)?;
         Ok(())
     }
 }
@@ -52,13 +50,11 @@ impl<'a> Memory for SparseDump<'a> {
     ghost shows = { λ s. sparse_map s.ranges.now s.bytes.now };
 
     fn read(&mut self, at: Address) -> Result<u8, Lacking> {
-        match find(self.ranges, at) {
-            Some(i) => {
-                let range = self.ranges[i];
-                let far = at.0 - range.start.0;
-                Ok(self.bytes[(range.place + far) as usize])
-            }
-            None => Err(Lacking { at }),
-        }
+        let Some(i) = find(self.ranges, at) else {
+            return Err(Lacking { at });
+        };
+        let range = self.ranges[i];
+        let far = at.0 - range.start.0;
+        Ok(self.bytes[(range.place + far) as usize])
     }
 }

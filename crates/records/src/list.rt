@@ -22,6 +22,7 @@ impl Numbered for NoRecord {
 pub struct RecordList<'a, T> {
     records: &'a mut [T],
     len: usize,
+    ghost fits: { len ≤ length records.now },
 }
 
 impl<'a, T: Copy> RecordList<'a, T> {
@@ -38,8 +39,7 @@ impl<'a, T: Copy> RecordList<'a, T> {
     pub fn len(&self) -> usize
         ensures { result ≡ self.now.len }
     {
-        let count = self.len;
-        count
+        self.len
     }
 
     // Appends `x`; with no record left it changes nothing.
@@ -50,11 +50,12 @@ impl<'a, T: Copy> RecordList<'a, T> {
         ensures items { take self.new.len self.new.records.now ≡ (if is_ok result then take self.old.len self.old.records.now ++ x ∷ [] else take self.old.len self.old.records.now) }
         ensures lender { self.new.records.ghost_name ≡ self.old.records.ghost_name }
     {
-        if self.len >= self.records.len() {
+        let RecordList { records, len } = self;
+        if *len >= records.len() {
             return Err(NoRecord);
         }
-        self.records[self.len] = x;
-        self.len += 1;
+        records[*len] = x;
+        *len += 1;
         Ok(())
     }
 }

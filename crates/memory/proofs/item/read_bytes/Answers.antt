@@ -6,14 +6,14 @@ use Rattle.memory.specs.Refusals.{item_fault}
 use Rattle.memory.proofs.Items.{bytes_more, bytes_stop, ended}
 use Rattle.memory.proofs.item.read_bytes.Goals as goal
 
-pub returns-in_err-b : goal.returns-in_err-b
-returns-in_err-b g c =
+pub returns-in_err-byte : goal.returns-in_err-byte
+returns-in_err-byte g c =
     let f = g.M.Memory.shows c.args.m.now in
     let start = c.args.start.0 in
     let i = c.loop-i.i in
     let inv = c.loop-i.invariant in
-    let said = c.in_err-b.ensures in
-    let e = c.in_err-b.field-0.0 in
+    let said = c.in_err-byte.ensures in
+    let e = c.in_err-byte.field-0.0 in
     let p = err_from_is_err_and c.from_residual.result c.from_residual.ensures.1 in
     let here : item_byte f start i ≡ Err (item_fault e) = sym (said.answer ∙ ap (λ s. item_byte s start i) inv.1) in
     let stop = bytes_stop f start i (length c.args.out.now) (take i c.loop-i.out) (item_fault e) (omega arith) inv.0 here in
@@ -25,8 +25,8 @@ loop-i-preserved g c =
     let start = c.args.start.0 in
     let i = c.loop-i.i in
     let inv = c.loop-i.invariant in
-    let said = c.in_ok-b.ensures in
-    let b = c.in_ok-b.b in
+    let said = c.in_ok-byte.ensures in
+    let b = c.in_ok-byte.field-0 in
     let here : item_byte f start i ≡ Ok b = sym (said.answer ∙ ap (λ s. item_byte s start i) inv.1) in
     let more = bytes_more f start i (take i c.loop-i.out) b inv.0 here in
     let within : i < length c.loop-i.out = omega arith in

@@ -1,27 +1,15 @@
-use Rattle.std.proofs.Common.{sym, ◌∙◌, arith}
-use Rattle.std.proofs.lemmas.List.{at_drop_all}
-use Rattle.records.specs.Spans.{ascending}
-use Rattle.records.proofs.Search.{own_stops, next_stops, last_steps, next-steps}
+use Rattle.std.proofs.Common.{rules, ltb, sym, ◌∙◌}
+use Rattle.std.proofs.lemmas.Fn.{always_returns_same}
+use Rattle.records.proofs.Search.{ordered, unordered}
 use Rattle.records.proofs.span.ascends.Goals as goal
-use Rattle.records.proofs.span.ascends.Goals.{else-i-records-via-then-i-records+else-position-last, else-i-records-via-else-i-records}
 
-pub returns-then-last-position : goal.returns-then-last-position
-returns-then-last-position g c =
+pub returns-then-are_whole : goal.returns-then-are_whole
+returns-then-are_whole g c =
     let s = g.R.Span in
-    sym (c.loop-i.invariant ∙ own_stops s.first s.last c.args.records.now c.loop-i.i _ c.loop-i-test.true c.index-records-i.is (omega arith))
+    let follows = c.is_sorted_by.ensures.cases (λ x y. ltb (s.last x) (s.first y)) (always_returns_same _ _ _ (λ a r q called. (search rules, search rules))) in
+    ordered s.first s.last c.args.records.now _ (sym c.are_whole.ensures ∙ c.if-are_whole.true) follows
 
-pub returns-then-position-last : goal.returns-then-position-last
-returns-then-position-last g c =
+pub returns-else-are_whole : goal.returns-else-are_whole
+returns-else-are_whole g c =
     let s = g.R.Span in
-    sym (c.loop-i.invariant ∙ next_stops s.first s.last c.args.records.now c.loop-i.i _ c.loop-i-test.true c.index-records-i.is _ c.if-i-records.true c.index-records-i-then-i-records.is (omega arith))
-
-pub loop-i-preserved : goal.loop-i-preserved
-loop-i-preserved g c =
-    let s = g.R.Span in
-    c.loop-i.invariant ∙ elim c.else-i-records.branch [
-      | else-i-records-via-then-i-records+else-position-last w ↦ next-steps s.first s.last c.args.records.now c.loop-i.i _ c.loop-i-test.true c.index-records-i.is _ w.if-i-records.true w.index-records-i-then-i-records.is (omega arith) (omega arith)
-      | else-i-records-via-else-i-records w ↦ last_steps s.first s.last c.args.records.now c.loop-i.i _ c.loop-i-test.true c.index-records-i.is (omega arith) w.if-i-records.false
-    ]
-
-pub returns : goal.returns
-returns g c = sym (c.loop-i.invariant ∙ at_drop_all (ascending g.R.Span.first g.R.Span.last) _ _ c.loop-i-test.false)
+    c.if-are_whole.false ∙ unordered s.first s.last c.args.records.now (sym c.are_whole.ensures ∙ c.if-are_whole.false)

@@ -30,8 +30,8 @@ bounds-self-range c =
     let d : DumpRange = record { start = record { 0 = 0 }; length = 0; place = 0 } in
     in_run s.ranges.now (length s.bytes.now) s.ok c.in-Some.i c.args.at.0 d f.0 (f.1 d).0 (f.1 d).1
 
-pub returns-in-Some : goal.returns-in-Some
-returns-in-Some c = record { answer = sym (told c.args.self.now c.args.at (Some c.in-Some.i) c.in-Some.ensures.finds); same = refl }
+pub returns : goal.returns
+returns c = record { answer = sym (told c.args.self.now c.args.at (Some c.in-Some.i) c.in-Some.ensures.finds); same = refl }
 
-pub returns-in-None : goal.returns-in-None
-returns-in-None c = record { answer = sym (told c.args.self.now c.args.at None c.in-None.ensures.finds); same = refl }
+pub returns-in_default : goal.returns-in_default
+returns-in_default c = record { answer = sym (told c.args.self.now c.args.at None (λ a. sym c.in_default.is ∙ c.find.ensures.finds a)); same = refl }
