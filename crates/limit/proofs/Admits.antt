@@ -1,32 +1,14 @@
 -- What admitting a window does to a table's list: the steps of the loops, the order kept, the addresses covered.
-use Rattle.std.proofs.Common.{◌≡◌, ℕ, zero, suc, ◌+◌, ◌-◌, ◌<◌, ◌≤◌, Bool, true, false, cond, ◌&&◌, ◌||◌, ltb, leb, ◌⊎◌, List, [], ◌∷◌, ◌++◌, length, get_or, take, drop, set, is_some, Some, None, Ok, Option, sym, refl, ap, ◌∙◌, inl, inr, arith}
+use Rattle.std.proofs.Common.{◌≡◌, ℕ, zero, suc, ◌+◌, ◌-◌, ◌<◌, ◌≤◌, Bool, true, false, cond, ◌&&◌, ◌||◌, ltb, leb, List, [], ◌∷◌, ◌++◌, length, take, drop, set, is_some, Some, None, Ok, Option, sym, refl, ap, ◌∙◌, arith}
 use borrow.Rule.Slice.PartMut.{put_mid}
 use Rattle.std.specs.List.{insert}
-use Rattle.std.proofs.lemmas.List.{at_drop_more, set_split, drop_all, drop-append-le, take-append-le, take_at, drop_at, append-nil, length-take-le, length-append, length-drop, take-take}
+use Rattle.std.proofs.lemmas.List.{set_split, drop_all, drop-append-le, take-append-le, take_at, drop_at, append-nil, length-take-le, length-append, length-drop, take-take}
 use Rattle.std.proofs.lemmas.List.Edits.{length-insert}
-use Rattle.std.proofs.lemmas.Bool.{and_parts, and_from, and_left, and_right, or_left, or_from, or_parts, ltb-true, ltb-false, leb-false, le-leb, lt-leb, lt-ltb, le-ltb, cond-true, cond-false, true≢false}
+use Rattle.std.proofs.lemmas.Bool.{and_parts, and_from, or_from, or_parts, ltb-true, ltb-false, leb-false, le-leb, lt-leb, lt-ltb, le-ltb, cond-false, true≢false}
 use Rattle.records.specs.Spans.{past, onward, found}
 use Rattle.records.proofs.Search.{asc_parts, past_lower}
 use Rattle.limit.specs.Windows.{window_first, window_last, window_holds, covered, overlaps_any, place_of, put_in, in_order, admission, open_at}
 use Rattle.limit.specs.declared.window.Window.{Window}
-
-clear : (w x : Window) → (window_last w < window_first x) ⊎ (window_last x < window_first w) → (leb (window_first x) (window_last w) && leb (window_first w) (window_last x)) ≡ false
-clear w x (inl h) = and_left (leb (window_first x) (window_last w)) (leb (window_first w) (window_last x)) (lt-leb (window_first x) (window_last w) h)
-clear w x (inr h) = and_right (leb (window_first x) (window_last w)) (leb (window_first w) (window_last x)) (lt-leb (window_first w) (window_last x) h)
-
--- the steps of the two loops
-module _ (w : Window) (ws : List Window) (i : ℕ) (d : Window) (h : i < length ws) where
-  pub touch_here : window_first (get_or ws i d) ≤ window_last w → window_first w ≤ window_last (get_or ws i d) → overlaps_any w (drop i ws) ≡ true
-  touch_here p q = at_drop_more (overlaps_any w) ws i d h ∙ or_left _ _ (and_from _ _ (le-leb _ _ p) (le-leb _ _ q))
-
-  pub touch_next : (window_last w < window_first (get_or ws i d)) ⊎ (window_last (get_or ws i d) < window_first w) → overlaps_any w (drop i ws) ≡ overlaps_any w (drop (i + 1) ws)
-  touch_next s = at_drop_more (overlaps_any w) ws i d h ∙ ap (λ b. b || overlaps_any w (drop (i + 1) ws)) (clear w (get_or ws i d) s)
-
-  pub place_here : window_first w ≤ window_last (get_or ws i d) → place_of w (drop i ws) ≡ 0
-  place_here p = at_drop_more (place_of w) ws i d h ∙ cond-false _ _ _ (le-ltb _ _ p)
-
-  pub place-next : window_last (get_or ws i d) < window_first w → place_of w (drop i ws) ≡ suc (place_of w (drop (i + 1) ws))
-  place-next p = at_drop_more (place_of w) ws i d h ∙ cond-true _ _ _ (lt-ltb _ _ p)
 
 -- the last slot is overwritten, and what stands from `at` on turned by one
 pub turned : (ws : List Window) (at : ℕ) (w : Window) (p part : List Window) → at < length ws → p ≡ drop at (set ws (length ws - 1) w) → part ≡ drop (length p - 1) p ++ take (length p - 1) p → put_mid at (length (set ws (length ws - 1) w) - at) (set ws (length ws - 1) w) part ≡ insert (take (length ws - 1) ws) at w
@@ -45,9 +27,12 @@ turned ws at w p part h e r =
     let none : drop (length s - at) (drop at s) ≡ [] = drop_all (length s - at) (drop at s) (simp length-drop (omega arith)) in
     ap (λ t. t ++ (part ++ drop (length s - at) (drop at s))) low ∙ ap (λ t. take at q ++ (part ++ t)) none ∙ ap (λ t. take at q ++ t) (append-nil part ∙ turn)
 
+suc-one : (k : ℕ) → suc k ≡ 1 + k
+suc-one k = omega arith
+
 pub place_le : (w : Window) (ws : List Window) → place_of w ws ≤ length ws
 place_le w [] = omega arith
-place_le w (x ∷ xs) = elim (ltb (window_last x) (window_first w)) as (λ b. cond b (suc (place_of w xs)) 0 ≤ suc (length xs)) [ true ↦ omega (arith, place_le w xs) | false ↦ omega arith ]
+place_le w (x ∷ xs) = elim (ltb (window_last x) (window_first w)) as (λ b. cond b (1 + place_of w xs) 0 ≤ suc (length xs)) [ true ↦ omega (arith, place_le w xs) | false ↦ omega arith ]
 
 clearly : (x y : Bool) → y ≡ true → (x && y) ≡ false → x ≡ false
 clearly true y e h = absurd (true≢false (sym e ∙ h))
@@ -63,10 +48,10 @@ past_inserted n (suc i) w (x ∷ xs) h p =
 order_from : (x : Window) (xs : List Window) → window_first x ≤ window_last x → past window_first (window_last x) xs ≡ true → in_order xs ≡ true → in_order (x ∷ xs) ≡ true
 order_from x xs h p a = and_from (leb (window_first x) (window_last x)) _ (le-leb _ _ h) (and_from (past window_first (window_last x) xs) (in_order xs) p a)
 
-order_by : (w x : Window) (xs : List Window) → window_first w ≤ window_last w → in_order (x ∷ xs) ≡ true → overlaps_any w (x ∷ xs) ≡ false → in_order (insert xs (place_of w xs) w) ≡ true → (b : Bool) → ltb (window_last x) (window_first w) ≡ b → in_order (insert (x ∷ xs) (cond b (suc (place_of w xs)) 0) w) ≡ true
+order_by : (w x : Window) (xs : List Window) → window_first w ≤ window_last w → in_order (x ∷ xs) ≡ true → overlaps_any w (x ∷ xs) ≡ false → in_order (insert xs (place_of w xs) w) ≡ true → (b : Bool) → ltb (window_last x) (window_first w) ≡ b → in_order (insert (x ∷ xs) (cond b (1 + place_of w xs) 0) w) ≡ true
 order_by w x xs l a t ih true e =
     let o = asc_parts window_first window_last x xs a in
-    order_from x (insert xs (place_of w xs) w) o.0 (past_inserted (window_last x) (place_of w xs) w xs (ltb-true _ _ e) o.1) ih
+    ap (λ j. in_order (insert (x ∷ xs) j w)) (sym (suc-one (place_of w xs))) ∙ order_from x (insert xs (place_of w xs) w) o.0 (past_inserted (window_last x) (place_of w xs) w xs (ltb-true _ _ e) o.1) ih
 order_by w x xs l a t ih false e =
     let o = asc_parts window_first window_last x xs a in
     let before : window_first w ≤ window_last x = ltb-false (window_last x) (window_first w) e in
@@ -107,8 +92,8 @@ accepted ws w l t room =
 pub untouched : (w : Window) (ws : List Window) (n : ℕ) → false ≡ overlaps_any w (take (n - 0) ws) → overlaps_any w (take n ws) ≡ false
 untouched w ws n e = let off : n - 0 ≡ n = omega arith in sym (e ∙ ap (λ j. overlaps_any w (take j ws)) off)
 
-put_by : (w x : Window) (xs : List Window) (k : ℕ) (b : Bool) → put_in w xs ≡ insert xs k w → cond b (x ∷ put_in w xs) (w ∷ x ∷ xs) ≡ insert (x ∷ xs) (cond b (suc k) 0) w
-put_by w x xs k true e = ap (λ l. x ∷ l) e
+put_by : (w x : Window) (xs : List Window) (k : ℕ) (b : Bool) → put_in w xs ≡ insert xs k w → cond b (x ∷ put_in w xs) (w ∷ x ∷ xs) ≡ insert (x ∷ xs) (cond b (1 + k) 0) w
+put_by w x xs k true e = ap (λ l. x ∷ l) e ∙ ap (λ j. insert (x ∷ xs) j w) (suc-one k)
 put_by w x xs k false e = refl
 
 pub put_is : (w : Window) (ws : List Window) → put_in w ws ≡ insert ws (place_of w ws) w

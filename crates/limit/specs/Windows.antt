@@ -1,5 +1,6 @@
 -- Which windows a table takes, and what a limit over a memory shows.
-use Rattle.std.specs.Prelude.{ℕ, suc, Bool, true, false, cond, ◌&&◌, ◌||◌, List, [], ◌∷◌, length, is_ok, Ok, Err, Result, nat_le, nat_lt}
+use Rattle.std.specs.Prelude.{ℕ, Bool, true, cond, ◌&&◌, ◌||◌, List, [], ◌∷◌, length, is_ok, Ok, Err, Result, nat_le, nat_lt}
+use Rattle.std.specs.List.{list_any, prefix_len}
 use Rattle.records.specs.Spans.{holds, ascending}
 use Rattle.memory.specs.Byte.{Byte, lacking}
 use Rattle.limit.specs.declared.window.Window.{Window}
@@ -15,13 +16,15 @@ window_holds at w = holds window_first window_last at w
 
 -- some window holds the address
 abbrev pub covered : List Window → ℕ → Bool
-covered [] at = false
-covered (w ∷ ws) at = window_holds at w || covered ws at
+covered ws at = list_any (window_holds at) ws
+
+-- two windows share an address
+abbrev pub touches : Window → Window → Bool
+touches w x = nat_le (window_first x) (window_last w) && nat_le (window_first w) (window_last x)
 
 -- the window shares an address with one of the list
 abbrev pub overlaps_any : Window → List Window → Bool
-overlaps_any w [] = false
-overlaps_any w (x ∷ xs) = (nat_le (window_first x) (window_last w) && nat_le (window_first w) (window_last x)) || overlaps_any w xs
+overlaps_any w xs = list_any (touches w) xs
 
 abbrev pub in_order : List Window → Bool
 in_order ws = ascending window_first window_last ws
@@ -40,8 +43,7 @@ admitted ws w = cond (is_ok (admission ws w)) (put_in w ws) ws
 
 -- how many of the list end before the window starts
 abbrev pub place_of : Window → List Window → ℕ
-place_of w [] = 0
-place_of w (x ∷ xs) = cond (nat_lt (window_last x) (window_first w)) (suc (place_of w xs)) 0
+place_of w xs = prefix_len (λ x. nat_lt (window_last x) (window_first w)) xs
 
 -- with no window every address is open, else those that a window holds
 abbrev pub open_at : List Window → ℕ → Bool

@@ -2,6 +2,7 @@
 ghost use Rattle.std.specs.Prelude.{◌≡◌, ℕ, true, ◌||◌, take, is_ok};
 ghost use Rattle.std.specs.Result.{result_map_both};
 ghost use Rattle.limit.specs.Refusals.{window_number};
+ghost use Rattle.limit.specs.Tables.{held};
 ghost use Rattle.limit.specs.Windows.{admission, admitted, covered, limited, window_holds};
 
 use crate::table::WindowTable;
@@ -30,9 +31,9 @@ impl<M> Limit<M> {
     // Admits the addresses from `first` to `last`. A first address above the last, or an overlap, is refused
     // with 33, and a seventeenth window with 34; then nothing changes.
     pub fn admit(&mut self, first: Address, last: Address) -> Result<(), WindowRefusal>
-        ensures answer { result_map_both (λ x. x) window_number result ≡ admission (take self.old.windows.count self.old.windows.windows) (record { first = first; last = last }) }
-        ensures after { take self.new.windows.count self.new.windows.windows ≡ admitted (take self.old.windows.count self.old.windows.windows) (record { first = first; last = last }) }
-        ensures grows { is_ok result ≡ true → (at : ℕ) → covered (take self.new.windows.count self.new.windows.windows) at ≡ (window_holds at (record { first = first; last = last }) || covered (take self.old.windows.count self.old.windows.windows) at) }
+        ensures answer { result_map_both (λ x. x) window_number result ≡ admission (held self.old.windows) (record { first = first; last = last }) }
+        ensures after { held self.new.windows ≡ admitted (held self.old.windows) (record { first = first; last = last }) }
+        ensures grows { is_ok result ≡ true → (at : ℕ) → covered (held self.new.windows) at ≡ (window_holds at (record { first = first; last = last }) || covered (held self.old.windows) at) }
         ensures below { self.new.below ≡ self.old.below }
     {
         self.windows.admit(Window { first, last })
@@ -40,7 +41,7 @@ impl<M> Limit<M> {
 }
 
 impl<M: Memory> Memory for Limit<M> {
-    ghost shows = { λ s. limited (take s.windows.count s.windows.windows) (M.Memory.shows s.below) };
+    ghost shows = { λ s. limited (held s.windows) (M.Memory.shows s.below) };
 
     fn read(&mut self, at: Address) -> Result<u8, Lacking> {
         if self.windows.admits(at) {

@@ -2,7 +2,7 @@
 ghost use Rattle.std.specs.Prelude.{◌≡◌, ℕ, ◌-◌, ◌<◌, length, take};
 ghost use Rattle.std.specs.List.{insert};
 ghost use Rattle.limit.specs.Refusals.{window_number};
-ghost use Rattle.limit.specs.Windows.{window_first, window_last, overlaps_any, place_of};
+ghost use Rattle.limit.specs.Windows.{window_first, window_last, touches, overlaps_any, place_of};
 
 use layout::address::Address;
 use layout::refusal::Numbered;
@@ -15,22 +15,20 @@ pub struct Window {
     pub last: Address,
 }
 
+// Why a window is not admitted; each case is its number.
 #[derive(Clone, Copy, PartialEq, Eq, Debug)]
 pub enum WindowRefusal {
-    // 33: the first address above the last, or an overlap with a window admitted before.
-    Crossing,
-    // 34: sixteen windows are admitted already.
-    Full,
+    // The first address above the last, or an overlap with a window admitted before.
+    Crossing = 33,
+    // Sixteen windows are admitted already.
+    Full = 34,
 }
 
 impl Numbered for WindowRefusal {
     ghost number = { window_number };
 
     fn number(&self) -> u16 {
-        match self {
-            WindowRefusal::Crossing => 33,
-            WindowRefusal::Full => 34,
-        }
+        *self as u16
     }
 }
 
@@ -50,28 +48,27 @@ impl Span for Window {
     }
 }
 
-// Whether `window` shares an address with one of `held`.
-pub(crate) fn overlaps(held: &[Window], window: Window) -> bool
-    ensures { result ≡ overlaps_any window held.now }
-{
-    for x in held {
-        if x.first.0 <= window.last.0 && window.first.0 <= x.last.0 {
-            return true;
-        }
+impl Window {
+    // Whether the two share an address.
+    fn touches(self, other: Window) -> bool
+        ensures { result ≡ touches self other }
+    {
+        other.first.0 <= self.last.0 && self.first.0 <= other.last.0
     }
-    false
-}
 
-// How many of `held` end before `window` starts.
-pub(crate) fn place(held: &[Window], window: Window) -> usize
-    ensures { result ≡ place_of window held.now }
-{
-    for (i, x) in held.iter().enumerate() {
-        if x.last.0 >= window.first.0 {
-            return i;
-        }
+    // Whether it shares an address with one of `held`.
+    pub(crate) fn overlaps(self, held: &[Window]) -> bool
+        ensures { result ≡ overlaps_any self held.now }
+    {
+        held.iter().any(|x| self.touches(*x))
     }
-    held.len()
+
+    // How many of `held` end before it starts.
+    pub(crate) fn place(self, held: &[Window]) -> usize
+        ensures { result ≡ place_of self held.now }
+    {
+        held.iter().take_while(|x| x.last.0 < self.first.0).count()
+    }
 }
 
 // Puts `window` at `at`, and moves what stands there up by one; what the last slot held is lost.

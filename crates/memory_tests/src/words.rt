@@ -1,10 +1,10 @@
 // Items read through piles, and words in a slice.
-use crate::{word_of_flat, word_of_sparse};
+use crate::word_through;
 use layout::address::Address;
-use layout::word::{read_u16, read_u32, read_u64, write_u32};
+use layout::word::{PastEnd, word_at, write_word};
 use limit::layer::Limit;
 use memory::flat::FlatImage;
-use memory::item::{ItemFault, read_word, read_xmm};
+use memory::item::{ItemFault, read_item};
 use memory::range::DumpRange;
 use memory::reading::Lacking;
 use memory::sparse::SparseDump;
@@ -19,12 +19,12 @@ fn a_word_is_little_endian(rt: HostRuntime) -> Result<(), Fail> {
     let bytes = [1, 2, 3, 4, 5, 6, 7, 8, 9, 10, 11, 12, 13, 14, 15, 16];
     let mut flat = FlatImage::new(Address(0x100), &bytes)?;
     assert_eq!(rt;
-        read_word(&mut flat, Address(0x101)),
-        Ok(0x0908_0706_0504_0302)
+        read_item(&mut flat, Address(0x101)),
+        Ok(0x0908_0706_0504_0302u64)
     );
     assert_eq!(rt;
-        read_xmm(&mut flat, Address(0x100)),
-        Ok(0x100f_0e0d_0c0b_0a09_0807_0605_0403_0201)
+        read_item(&mut flat, Address(0x100)),
+        Ok(0x100f_0e0d_0c0b_0a09_0807_0605_0403_0201u128)
     );
     Ok(())
 }
@@ -41,8 +41,8 @@ fn the_first_lacking_byte_ends_a_word(rt: HostRuntime) -> Result<(), Fail> {
     let mut inner = Limit::new(dump);
     inner.admit(Address(0x100), Address(0x104))?;
     let mut pile = Limit::new(inner);
-    assert_eq!(rt; word_of_sparse(&mut pile, Address(0x100)), lacking(0x105));
-    assert_eq!(rt; word_of_sparse(&mut pile, Address(0xff)), lacking(0xff));
+    assert_eq!(rt; word_through(&mut pile, Address(0x100)), lacking(0x105));
+    assert_eq!(rt; word_through(&mut pile, Address(0xff)), lacking(0xff));
     Ok(())
 }
 
@@ -53,21 +53,21 @@ fn a_word_past_the_last_address_is_50_unless_a_byte_was_lacking(
     let at = u64::MAX - 2;
     let mut whole = Limit::new(Limit::new(FlatImage::new(Address(at), &[1, 2, 3])?));
     assert_eq!(rt;
-        word_of_flat(&mut whole, Address(at)),
+        word_through(&mut whole, Address(at)),
         Err(ItemFault::PastEnd(Address(at)))
     );
-    assert_eq!(rt; word_of_flat(&mut whole, Address(at - 1)), lacking(at - 1));
+    assert_eq!(rt; word_through(&mut whole, Address(at - 1)), lacking(at - 1));
     Ok(())
 }
 
 #[test]
 fn words_in_a_slice(rt: HostRuntime) {
     let mut bytes = [0x34, 0x12, 0, 0, 0xff];
-    assert_eq!(rt; read_u16(&bytes, 0), Some(0x1234));
-    assert_eq!(rt; read_u32(&bytes, 1), Some(0xff00_0012));
-    assert_eq!(rt; read_u32(&bytes, 2), None);
-    assert_eq!(rt; read_u64(&bytes, 0), None);
-    assert!(rt; !write_u32(&mut bytes, 2, 7));
-    assert!(rt; write_u32(&mut bytes, 1, 0x0403_0201));
+    assert_eq!(rt; word_at(&bytes, 0), Some(0x1234u16));
+    assert_eq!(rt; word_at(&bytes, 1), Some(0xff00_0012u32));
+    assert_eq!(rt; word_at::<4, u32>(&bytes, 2), None);
+    assert_eq!(rt; word_at::<8, u64>(&bytes, 0), None);
+    assert_eq!(rt; write_word(&mut bytes, 2, 7u32), Err(PastEnd));
+    assert_eq!(rt; write_word(&mut bytes, 1, 0x0403_0201u32), Ok(()));
     assert_eq!(rt; bytes, [0x34, 1, 2, 3, 4]);
 }

@@ -87,7 +87,7 @@ module _ {R : Type 0} (first last : R → ℕ) where
   holds_key key xs (Ok i) is within = (within, λ d. at_equal key _ (is d))
   holds_key key xs (Err i) is within = tt
 
-  past_lower : (m n : ℕ) (xs : List R) → m ≤ n → past first n xs ≡ true → past first m xs ≡ true
+  pub past_lower : (m n : ℕ) (xs : List R) → m ≤ n → past first n xs ≡ true → past first m xs ≡ true
   past_lower m n [] h p = refl
   past_lower m n (x ∷ xs) h p =
       let q = and_parts (ltb n (first x)) (past first n xs) p in
