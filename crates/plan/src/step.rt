@@ -19,11 +19,11 @@ pub enum Step {
     Save(SaveStep),
 }
 
-impl Step {
-    // The step that a record means; a kind above 3 counts as 3, and a frame offset above 255 as 255, which no check accepts.
-    pub fn of(r: StepRecord) -> Step
-        ensures { result ≡ step_of r }
-    {
+// A kind above 3 counts as 3, and a frame offset above 255 as 255, which no check accepts.
+impl From<StepRecord> for Step {
+    ghost from_gives = { λ r s. s ≡ step_of r };
+
+    fn from(r: StepRecord) -> Step {
         match r.kind {
             0 => Step::Push(PushStep {
                 register: r.register,
@@ -39,7 +39,9 @@ impl Step {
             }),
         }
     }
+}
 
+impl Step {
     pub fn instruction(&self) -> Instruction
         ensures { result ≡ step_instruction self.now }
     {
