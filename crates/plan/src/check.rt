@@ -36,7 +36,11 @@ fn are_all_counted(plan: &Plan<'_>) -> bool
     ensures { result ≡ (steps_counted plan.now.functions.now == length plan.now.steps.now && operations_counted plan.now.functions.now == length plan.now.operations.now) }
 {
     let steps: usize = plan.functions.iter().map(|c| usize::from(c.steps)).sum();
-    let operations: usize = plan.functions.iter().map(|c| usize::from(c.operations)).sum();
+    let operations: usize = plan
+        .functions
+        .iter()
+        .map(|c| usize::from(c.operations))
+        .sum();
     steps == plan.steps.len() && operations == plan.operations.len()
 }
 

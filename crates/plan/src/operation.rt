@@ -4,7 +4,7 @@ ghost use Rattle.plan.specs.Operations.{operation_of};
 
 use crate::text::OperationRecord;
 
-#[derive(Clone, Copy)]
+#[derive(Clone, Copy, PartialEq, Eq, Debug)]
 pub enum Operation {
     Nop,
     // Set a register to 32 signed bits, given as their pattern.

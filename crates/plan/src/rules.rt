@@ -6,7 +6,9 @@ ghost use Rattle.plan.specs.Steps.{step_of};
 
 use crate::refusal::PlanReason;
 use crate::step::Step;
-use crate::survey::{block_size, has_frame, has_other_than_push, is_frame, is_kept, is_pushed, is_slot_used, pushes};
+use crate::survey::{
+    block_size, has_frame, has_other_than_push, is_frame, is_kept, is_pushed, is_slot_used, pushes,
+};
 use crate::text::{OperationRecord, StepRecord};
 use layout::registers::{is_preserved, is_volatile};
 
@@ -103,8 +105,7 @@ pub(crate) fn is_aligned(calls: bool, steps: &[StepRecord]) -> bool
 fn is_settable(steps: &[StepRecord], register: u8) -> bool
     ensures { result ≡ settable (map step_of steps.now) register }
 {
-    (is_volatile(register) || is_kept(steps, register))
-        && !is_frame(steps, register)
+    (is_volatile(register) || is_kept(steps, register)) && !is_frame(steps, register)
 }
 
 // Whether an operation of a function with these steps, in a module of so many functions, keeps the rules.

@@ -42,11 +42,9 @@ pub(crate) fn has_other_than_push(steps: &[StepRecord]) -> bool
 pub(crate) fn is_frame(steps: &[StepRecord], register: u8) -> bool
     ensures { result ≡ list_any (frames register) (map step_of steps.now) }
 {
-    steps
-        .iter()
-        .copied()
-        .map(Step::from)
-        .any(|s| matches!(s, Step::SetFrame(k) if k.register == register))
+    steps.iter().copied().map(Step::from).any(
+        |s| matches!(s, Step::SetFrame(k) if k.register == register),
+    )
 }
 
 pub(crate) fn has_frame(steps: &[StepRecord]) -> bool
@@ -90,9 +88,7 @@ pub fn block_size(steps: &[StepRecord]) -> u32
 {
     steps
         .iter()
-        .copied()
-        .map(Step::from)
-        .find_map(|s| match s {
+        .find_map(|r| match Step::from(*r) {
             Step::Allocate(k) => Some(k.size),
             _ => None,
         })
@@ -103,12 +99,8 @@ pub fn block_size(steps: &[StepRecord]) -> u32
 pub fn frame_register(steps: &[StepRecord]) -> Option<SetFrameStep>
     ensures { result ≡ frame (map step_of steps.now) }
 {
-    steps
-        .iter()
-        .copied()
-        .map(Step::from)
-        .find_map(|s| match s {
-            Step::SetFrame(k) => Some(k),
-            _ => None,
-        })
+    steps.iter().find_map(|r| match Step::from(*r) {
+        Step::SetFrame(k) => Some(k),
+        _ => None,
+    })
 }
