@@ -1,3 +1,4 @@
+pub mod Cursors
 pub mod Places
 pub mod Registers
 pub mod Words

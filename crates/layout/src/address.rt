@@ -39,10 +39,7 @@ impl Rva {
     pub fn above(self, base: Address) -> Option<Address>
         ensures { result ≡ placed base self }
     {
-        match base.0.checked_add(u64::from(self.0)) {
-            Some(sum) => Some(Address(sum)),
-            None => None,
-        }
+        base.0.checked_add(u64::from(self.0)).map(Address)
     }
 }
 
@@ -51,13 +48,7 @@ impl Address {
     pub fn distance_from(self, base: Address) -> Option<Rva>
         ensures { result ≡ distance base self }
     {
-        if self.0 < base.0 {
-            return None;
-        }
-        let far = self.0 - base.0;
-        if far > 0xffff_ffff {
-            return None;
-        }
-        Some(Rva(far as u32))
+        let far = self.0.checked_sub(base.0)?;
+        u32::try_from(far).ok().map(Rva)
     }
 }

@@ -2,6 +2,7 @@
 #![tactic(auto)]
 
 pub mod address;
+pub mod cursor;
 pub mod refusal;
 pub mod registers;
 pub mod word;

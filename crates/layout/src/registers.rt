@@ -33,5 +33,5 @@ pub fn is_volatile(register: u8) -> bool
 pub fn is_xmm_preserved(register: u8) -> bool
     ensures { result ≡ xmm_preserved register }
 {
-    6 <= register && register <= 15
+    (6..=15).contains(&register)
 }
