@@ -1,8 +1,6 @@
-use Rattle.std.proofs.Common.{◌^◌, ◌<◌, ◌+◌, All, length, refl, sym, ap, ◌∙◌, subst, inl, rules, arith}
+use Rattle.std.proofs.Common.{◌^◌, ◌<◌, length, refl, sym, ◌∙◌, inl, rules, arith}
 use Rattle.std.proofs.lemmas.Result.{err_from_is_err_and}
-use Rattle.std.specs.Iterator.Adapters.{enumerate_count}
-use Rattle.plan.proofs.Passes.{small_turn, in_turn, Small, counts_good, all_small, few_steps_in, few_operations_in, length-functions_in, functions_one, no_functions, stopped, passed}
-use Rattle.plan.specs.Verdicts.{functions_verdict}
+use Rattle.plan.proofs.Passes.{small_turn, in_turn, counts_good, all_small, few_steps_in, few_operations_in, length-functions_in, functions_one, no_functions, stopped, passed}
 use Rattle.plan.proofs.check.check_functions.Goals as goal
 
 pub loop-k-init : goal.loop-k-init
