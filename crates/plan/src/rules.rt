@@ -95,11 +95,10 @@ pub(crate) fn check_step(
 
 // Whether the stack is aligned for calls, and the block has room for a callee's home words.
 pub(crate) fn is_aligned(calls: bool, steps: &[StepRecord]) -> bool
-    requires { length steps.now ≤ 10 }
     ensures { result ≡ aligned calls (map step_of steps.now) }
 {
     let block = block_size(steps);
-    !calls || (8 * pushes(steps) as u64 + u64::from(block)) % 16 == 8 && block >= 32
+    !calls || (8 * pushes(steps) as u128 + u128::from(block)) % 16 == 8 && block >= 32
 }
 
 fn is_settable(steps: &[StepRecord], register: u8) -> bool
