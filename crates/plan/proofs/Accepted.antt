@@ -2,6 +2,7 @@
 use Rattle.std.proofs.Common.{min, ◌≡◌, ℕ, ◌+◌, ◌%◌, ◌<◌, ◌≤◌, Bool, true, false, cond, not, ◌&&◌, ◌||◌, eqb, leb, ◌≢◌, List, [], ◌∷◌, ◌++◌, map, length, take, drop, is_ok, Some, Ok, Err, Option, Result, sym, refl, ap, ◌∙◌, subst, ⊎_elim, arith}
 use Rattle.std.specs.List.{list_any}
 use Rattle.std.specs.Result.{result_map_both}
+use Rattle.std.proofs.Math.Bool.{or-false}
 use Rattle.std.proofs.lemmas.List.Folds.{list_any-append}
 use Rattle.std.proofs.lemmas.Bool.{false≢true, true≢false, and_parts, leb-true, eqb-true, ne_eqb, cases_eq, or_cases, or_parts, not-true}
 use Rattle.layout.specs.Registers.{preserved}
@@ -74,12 +75,8 @@ Fines f used (s ∷ ss) = Fine used s × Framed f s × Fines f (used || sets_fra
 abbrev Before : List Step → Type 0
 Before before = (block before ≤ 2097152) × ((q : ℕ) → list_any (pushes q) before ≡ true → preserved q ≡ true)
 
-or_swap : (b : Bool) → (b || false) ≡ b
-or_swap true = refl
-or_swap false = refl
-
 any_push : (g : Step → Bool) (ss : List Step) (s : Step) → list_any g (ss ++ s ∷ []) ≡ (list_any g ss || g s)
-any_push g ss s = list_any-append g ss (s ∷ []) ∙ ap (λ b. list_any g ss || b) (or_swap (g s))
+any_push g ss s = list_any-append g ss (s ∷ []) ∙ ap (λ b. list_any g ss || b) (or-false (g s))
 
 block_push : (ss : List Step) (s : Step) → block ss ≤ 2097152 → block (s ∷ []) ≤ 2097152 → block (ss ++ s ∷ []) ≤ 2097152
 unfolding block

@@ -11,6 +11,8 @@ use crate::survey::{
 };
 use crate::text::{OperationRecord, StepRecord};
 use layout::registers::{is_preserved, is_volatile};
+use steps::push::PushStep;
+use steps::save::SaveStep;
 
 fn is_known(r: StepRecord) -> bool
     ensures { result ≡ known r }
@@ -28,8 +30,9 @@ fn is_repeated(before: &[StepRecord], step: Step) -> bool
     ensures { result ≡ repeated (map step_of before.now) step }
 {
     match step {
-        Step::Push(k) => is_kept(before, k.register),
-        Step::Save(k) => is_kept(before, k.register),
+        Step::Push(PushStep { register }) | Step::Save(SaveStep { register, .. }) => {
+            is_kept(before, register)
+        }
         Step::Allocate(_) | Step::SetFrame(_) => false,
     }
 }
