@@ -96,7 +96,7 @@ pub(crate) fn check_step(
     Ok(())
 }
 
-// Whether the stack is aligned for calls, and the block has room for a callee's home words.
+// Whether the stack is aligned for calls, and the block has room for a callee's home words; in 128 bits no sum overflows.
 pub(crate) fn is_aligned(calls: bool, steps: &[StepRecord]) -> bool
     ensures { result ≡ aligned calls (map step_of steps.now) }
 {
