@@ -6,9 +6,13 @@ ghost use Rattle.plan.specs.Steps.{step_of};
 
 use crate::refusal::PlanReason;
 use crate::step::Step;
-use crate::survey::{Sought, any, block_size, pushes};
+use crate::survey::{
+    block_size, has_frame, has_other_than_push, is_frame, is_kept, is_pushed, is_slot_used, pushes,
+};
 use crate::text::{OperationRecord, StepRecord};
 use layout::registers::{is_preserved, is_volatile};
+use steps::push::PushStep;
+use steps::save::SaveStep;
 
 fn is_known(r: StepRecord) -> bool
     ensures { result ≡ known r }
@@ -26,10 +30,10 @@ fn is_repeated(before: &[StepRecord], step: Step) -> bool
     ensures { result ≡ repeated (map step_of before.now) step }
 {
     match step {
-        Step::Push(k) => any(before, Sought::Keeps(k.register)),
-        Step::Allocate(_) => false,
-        Step::SetFrame(_) => false,
-        Step::Save(k) => any(before, Sought::Keeps(k.register)),
+        Step::Push(PushStep { register }) | Step::Save(SaveStep { register, .. }) => {
+            is_kept(before, register)
+        }
+        Step::Allocate(_) | Step::SetFrame(_) => false,
     }
 }
 
@@ -37,11 +41,10 @@ fn is_in_order(before: &[StepRecord], step: Step) -> bool
     ensures { result ≡ in_order (map step_of before.now) step }
 {
     match step {
-        Step::Push(_) => !any(before, Sought::OtherThanPush),
-        Step::Allocate(_) => !any(before, Sought::OtherThanPush),
-        Step::SetFrame(k) => !any(before, Sought::SetsFrame)
+        Step::Push(_) | Step::Allocate(_) => !has_other_than_push(before),
+        Step::SetFrame(k) => !has_frame(before)
             && k.register != 12
-            && any(before, Sought::Pushes(k.register)),
+            && is_pushed(before, k.register),
         Step::Save(_) => true,
     }
 }
@@ -54,7 +57,7 @@ fn has_slot(calls: bool, before: &[StepRecord], offset: u32) -> bool
     offset % 8 == 0
         && block >= 8
         && offset <= block - 8
-        && !any(before, Sought::SavesAt(offset))
+        && !is_slot_used(before, offset)
         && (!calls || offset >= 32)
 }
 
@@ -80,7 +83,7 @@ pub(crate) fn check_step(
     if !is_known(r) {
         return Err(PlanReason::StepKind);
     }
-    let step = Step::of(r);
+    let step = Step::from(r);
     if is_repeated(before, step) {
         return Err(PlanReason::Repeated);
     }
@@ -93,20 +96,18 @@ pub(crate) fn check_step(
     Ok(())
 }
 
-// Whether the stack is aligned for calls, and the block has room for a callee's home words.
+// Whether the stack is aligned for calls, and the block has room for a callee's home words; in 128 bits no sum overflows.
 pub(crate) fn is_aligned(calls: bool, steps: &[StepRecord]) -> bool
-    requires { length steps.now ≤ 10 }
     ensures { result ≡ aligned calls (map step_of steps.now) }
 {
     let block = block_size(steps);
-    !calls || (8 * pushes(steps) as u64 + u64::from(block)) % 16 == 8 && block >= 32
+    !calls || (8 * pushes(steps) as u128 + u128::from(block)) % 16 == 8 && block >= 32
 }
 
 fn is_settable(steps: &[StepRecord], register: u8) -> bool
     ensures { result ≡ settable (map step_of steps.now) register }
 {
-    (is_volatile(register) || any(steps, Sought::Keeps(register)))
-        && !any(steps, Sought::Frames(register))
+    (is_volatile(register) || is_kept(steps, register)) && !is_frame(steps, register)
 }
 
 // Whether an operation of a function with these steps, in a module of so many functions, keeps the rules.
@@ -121,7 +122,7 @@ pub(crate) fn is_operation(functions: usize, steps: &[StepRecord], r: OperationR
             && 16 <= number
             && number <= 65520
             && number % 16 == 0
-            && any(steps, Sought::SetsFrame),
+            && has_frame(steps),
         3 => usize::from(r.first) < functions && number == 0,
         _ => false,
     }
