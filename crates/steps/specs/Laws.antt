@@ -10,7 +10,8 @@ use Rattle.x64.specs.declared.instruction.Instruction.TheVariants.{Push, SubRsp,
 use Rattle.cpu.specs.Effects.{below, moved, signed}
 use Rattle.cpu.specs.Performance.{holds_word, settles}
 use Rattle.steps.specs.Kinds.{undo_push, undo_allocate, undo_frame, undo_save}
-use Rattle.steps.specs.States.{State, value, rsp, word, after, allowed, Sixteen, GivesBack, Later}
+use Rattle.cpu.specs.Processors.{State}
+use Rattle.steps.specs.States.{value, rsp, word, after, allowed, Sixteen, GivesBack, Later}
 
 -- RSP is no preserved register
 not_rsp : (r : ℕ) → preserved r ≡ true → r ≢ 4
