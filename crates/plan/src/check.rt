@@ -1,13 +1,13 @@
 // Which descriptions are accepted.
 ghost use Rattle.std.specs.Prelude.{◌≡◌, ℕ, ◌+◌, ◌^◌, ◌<◌, ◌≤◌, ◌&&◌, [], map, length, Ok, ◌==◌};
-ghost use Rattle.plan.specs.Functions.{text_of, functions_in};
+ghost use Rattle.plan.specs.Functions.{text_of, function_of, functions_of};
 ghost use Rattle.plan.specs.Refusals.{reason_number, told};
 ghost use Rattle.plan.specs.Steps.{step_of};
 ghost use Rattle.plan.specs.Verdicts.{owed, within, calls, steps_verdict, operations_verdict, function_verdict, functions_verdict, counts_verdict, plan_verdict};
 
 use crate::refusal::{PlanReason, PlanRefusal, at_index};
 use crate::rules::{check_step, is_aligned, is_operation};
-use crate::text::{Counts, OperationRecord, Plan, StepRecord, part};
+use crate::text::{Counts, Function, OperationRecord, Plan, StepRecord};
 
 // A module has at most this many functions, a function at most this many steps and operations.
 pub const MAX_FUNCTIONS: usize = 64;
@@ -112,38 +112,28 @@ fn check_function(
     index: usize,
     step: usize,
     operation: usize,
-    steps: &[StepRecord],
-    operations: &[OperationRecord],
+    f: Function<'_>,
 ) -> Result<(), PlanRefusal>
-    requires { (length steps.now ≤ 10) × ((step + length steps.now < 2 ^ 64) × (operation + length operations.now < 2 ^ 64)) }
-    ensures { told result ≡ function_verdict functions index step operation (record { steps = steps.entry.now; operations = operations.now }) }
+    requires { (length f.steps.now ≤ 10) × ((step + length f.steps.now < 2 ^ 64) × (operation + length f.operations.now < 2 ^ 64)) }
+    ensures { told result ≡ function_verdict functions index step operation (function_of f.entry) }
 {
-    let calls = has_call(operations);
-    check_steps(calls, step, steps)?;
-    owe(is_aligned(calls, steps), PlanReason::Alignment, index)?;
-    check_operations(functions, steps, operation, operations)
+    let calls = has_call(f.operations);
+    check_steps(calls, step, f.steps)?;
+    owe(is_aligned(calls, f.steps), PlanReason::Alignment, index)?;
+    check_operations(functions, f.steps, operation, f.operations)
 }
 
 // 12 to 17 for each function.
-fn check_functions(
-    counts: &[Counts],
-    steps: &[StepRecord],
-    operations: &[OperationRecord],
-) -> Result<(), PlanRefusal>
-    requires { counts_verdict counts.now (length steps.now) (length operations.now) ≡ Ok tt }
-    ensures { told result ≡ functions_verdict (length counts.now) 0 0 0 (functions_in counts.now steps.now operations.now) }
+fn check_functions(plan: &Plan<'_>) -> Result<(), PlanRefusal>
+    requires { counts_verdict plan.now.functions.now (length plan.now.steps.now) (length plan.now.operations.now) ≡ Ok tt }
+    ensures { told result ≡ functions_verdict (length plan.now.functions.now) 0 0 0 (functions_of (text_of plan.now)) }
 {
-    let mut s = 0;
-    let mut o = 0;
-    let mut k = 0;
-    while k < counts.len() {
-        let c = counts[k];
-        let own_steps = part(steps, s, c.steps);
-        let own_operations = part(operations, o, c.operations);
-        check_function(counts.len(), k, s, o, own_steps, own_operations)?;
-        s += usize::from(c.steps);
-        o += usize::from(c.operations);
-        k += 1;
+    let mut step = 0;
+    let mut operation = 0;
+    for (k, f) in plan.functions().enumerate() {
+        check_function(plan.functions.len(), k, step, operation, f)?;
+        step += f.steps.len();
+        operation += f.operations.len();
     }
     Ok(())
 }
@@ -156,6 +146,6 @@ impl Plan<'_> {
         let n = self.functions.len();
         owe(1 <= n && n <= MAX_FUNCTIONS, PlanReason::FunctionCount, 0)?;
         check_counts(self.functions, self.steps.len(), self.operations.len())?;
-        check_functions(self.functions, self.steps, self.operations)
+        check_functions(self)
     }
 }
