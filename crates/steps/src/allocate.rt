@@ -61,7 +61,8 @@ impl StepKind for AllocateStep {
             return out.put(&[end, 16 * (words as u8 - 1) + 2]);
         }
         if self.size <= 524280 {
-            return out.put(&[end, 1, (words % 256) as u8, (words / 256) as u8]);
+            let [w0, w1] = (words as u16).to_le_bytes();
+            return out.put(&[end, 1, w0, w1]);
         }
         let [b0, b1, b2, b3] = self.size.to_le_bytes();
         out.put(&[end, 17, b0, b1, b2, b3])

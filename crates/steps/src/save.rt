@@ -64,13 +64,8 @@ impl StepKind for SaveStep {
 
     fn write_code(&self, end: u8, out: &mut Cursor) {
         if self.offset <= 524280 {
-            let words = self.offset / 8;
-            return out.put(&[
-                end,
-                16 * self.register + 4,
-                (words % 256) as u8,
-                (words / 256) as u8,
-            ]);
+            let [w0, w1] = ((self.offset / 8) as u16).to_le_bytes();
+            return out.put(&[end, 16 * self.register + 4, w0, w1]);
         }
         let [b0, b1, b2, b3] = self.offset.to_le_bytes();
         out.put(&[end, 16 * self.register + 5, b0, b1, b2, b3])
