@@ -45,11 +45,6 @@ abbrev pub AllSound : List Step → Type 0
 AllSound [] = Unit
 AllSound (s ∷ ss) = Sound s × AllSound ss
 
--- some element passes a test
-abbrev pub any : {X : Type 0} → (X → Bool) → List X → Bool
-any f [] = false
-any f (x ∷ xs) = f x || any f xs
-
 -- keeps the register: pushes or saves it
 abbrev pub keeps : ℕ → Step → Bool
 keeps r (Push k) = k.register == r

@@ -29,7 +29,7 @@ pub struct OperationRecord {
 }
 
 // The functions of a module; their steps and operations lie one function's after another's.
-#[derive(Clone, Copy)]
+#[derive(Clone, Copy, PartialEq, Eq, Debug)]
 pub struct Plan<'a> {
     pub functions: &'a [Counts],
     pub steps: &'a [StepRecord],
