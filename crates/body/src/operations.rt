@@ -38,7 +38,7 @@ pub(crate) fn operations_size(operations: &[OperationRecord]) -> usize
 {
     operations
         .iter()
-        .map(|o| encoded_length(instruction_of(Operation::of(*o), &[], 0)))
+        .map(|o| encoded_length(instruction_of(Operation::from(*o), &[], 0)))
         .sum()
 }
 
@@ -55,7 +55,7 @@ pub(crate) fn write_operations(
 {
     let mut place = rva;
     for o in operations {
-        let i = instruction_of(Operation::of(*o), starts, place);
+        let i = instruction_of(Operation::from(*o), starts, place);
         place += encoded_length(i) as u32;
         emit(out, i);
     }

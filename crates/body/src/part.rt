@@ -50,7 +50,7 @@ pub fn part_size<F: Fn(Step) -> Option<Instruction>>(steps: &[StepRecord], give:
 {
     let mut n = 0;
     for s in steps {
-        if let Some(i) = give(Step::of(*s)) {
+        if let Some(i) = give(Step::from(*s)) {
             n += encoded_length(i);
         }
     }
@@ -68,7 +68,7 @@ pub(crate) fn write_backward<F: Fn(Step) -> Option<Instruction>>(
     ensures { (g : Step → List Instruction) → Gives F.Fn give g → out.new ≡ wrote out.old (bytes (backward g (map step_of steps.now))) }
 {
     for s in steps.iter().rev() {
-        if let Some(i) = give(Step::of(*s)) {
+        if let Some(i) = give(Step::from(*s)) {
             emit(out, i);
         }
     }
@@ -89,6 +89,6 @@ pub(crate) fn write_prologue(steps: &[StepRecord], out: &mut Cursor)
     ensures { out.new ≡ wrote out.old (bytes (enter (map step_of steps.now))) }
 {
     for s in steps {
-        emit(out, Step::of(*s).instruction());
+        emit(out, Step::from(*s).instruction());
     }
 }

@@ -40,7 +40,7 @@ fn codes_size(steps: &[StepRecord]) -> usize
     ensures size { result ≡ length (codes 0 (map step_of steps.now)) }
     ensures bound { result ≤ 60 }
 {
-    steps.iter().map(|s| code_size(Step::of(*s))).sum()
+    steps.iter().map(|s| code_size(Step::from(*s))).sum()
 }
 
 fn pad_size(size: usize) -> usize
@@ -79,7 +79,7 @@ fn write_codes(steps: &[StepRecord], prologue: usize, out: &mut Cursor)
 {
     let mut end = prologue;
     for s in steps.iter().rev() {
-        let step = Step::of(*s);
+        let step = Step::from(*s);
         step.write_code(end as u8, out);
         end -= encoded_length(step.instruction());
     }

@@ -17,13 +17,13 @@ pub emit-requires : goal.emit-requires
 emit-requires g c =
     let t = YieldsList-turn (YieldsList-from_rev_slice c.args.steps.now cc) c.loop-s.yielded _ c.loop-s.yielded_by _ _ c.in-Some.s c.in-Some.is c.next.ensures.steps in
     let k = c.requires.room.0 in
-    let e = some_given _ _ _ t.0 _ (c.of.ensures ∙ ap step_of t.1) k _ (c.requires.room.1 _ _ c.in-Some-give.ensures) in
+    let e = some_given _ _ _ t.0 _ (c.from.ensures ∙ ap step_of t.1) k _ (c.requires.room.1 _ _ c.in-Some-give.ensures) in
     room_next _ _ _ _ _ c.requires.room.2 (c.loop-s.invariant.4 k c.requires.room.1 ∙ ap (λ l. c.loop-s.invariant.2 ++ l) e) _ c.loop-s.invariant.3
 
 pub loop-s-preserved-in-Some-give : goal.loop-s-preserved-in-Some-give
 loop-s-preserved-in-Some-give g c =
     let t = YieldsList-turn (YieldsList-from_rev_slice c.args.steps.now cc) c.loop-s.yielded _ c.loop-s.yielded_by _ _ c.in-Some.s c.in-Some.is c.next.ensures.steps in
-    let e = c.of.ensures ∙ ap step_of t.1 in
+    let e = c.from.ensures ∙ ap step_of t.1 in
     let k = c.requires.room.0 in
     let is = c.loop-s.invariant.2 in
     let x = encode c.in-Some-give.i in (
@@ -45,7 +45,7 @@ loop-s-preserved g c =
       is,
       c.loop-s.invariant.3,
       λ h y.
-          c.loop-s.invariant.4 h y ∙ ap (λ l. is ++ l) (none_given _ _ _ t.0 _ (c.of.ensures ∙ ap step_of t.1) h (y _ _ c.in_default.ensures))
+          c.loop-s.invariant.4 h y ∙ ap (λ l. is ++ l) (none_given _ _ _ t.0 _ (c.from.ensures ∙ ap step_of t.1) h (y _ _ c.in_default.ensures))
           ∙ ap (λ n. is ++ bytes (forward h (map step_of (drop n (reverse c.args.steps.now))))) (sym (length_push c.loop-s.yielded c.in-Some.s)),
     )
 

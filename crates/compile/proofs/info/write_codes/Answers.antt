@@ -19,24 +19,24 @@ pub write_code-requires-clause-sound : goal.write_code-requires-clause-sound
 write_code-requires-clause-sound c =
     let t = turn_back c.args.steps.now (length c.loop-s.yielded) c.in-Some.s.now (YieldsList-turn (YieldsList-from_rev_slice c.args.steps.now cc) c.loop-s.yielded _ c.loop-s.yielded_by _ _ c.in-Some.s c.in-Some.is c.next.ensures.steps) in
     let i = length c.args.steps.now - length c.loop-s.yielded - 1 in
-    subst Sound (sym (c.of-step.ensures ∙ ap step_of t.1)) (sound_at c.args.steps.now i c.in-Some.s.now (omega (arith, t.0)) c.requires.sound)
+    subst Sound (sym (c.from-step.ensures ∙ ap step_of t.1)) (sound_at c.args.steps.now i c.in-Some.s.now (omega (arith, t.0)) c.requires.sound)
 
 pub write_code-requires-clause-room : goal.write_code-requires-clause-room
 write_code-requires-clause-room c =
     let t = turn_back c.args.steps.now (length c.loop-s.yielded) c.in-Some.s.now (YieldsList-turn (YieldsList-from_rev_slice c.args.steps.now cc) c.loop-s.yielded _ c.loop-s.yielded_by _ _ c.in-Some.s c.in-Some.is c.next.ensures.steps) in
-    room _ _ (recast c.loop-s.invariant.2 (codes_last c.args.steps.now (length c.args.steps.now - length c.loop-s.yielded) _ (omega arith) t.0 _ (c.of-step.ensures ∙ ap step_of t.1) _ c.loop-s.invariant.3))
+    room _ _ (recast c.loop-s.invariant.2 (codes_last c.args.steps.now (length c.args.steps.now - length c.loop-s.yielded) _ (omega arith) t.0 _ (c.from-step.ensures ∙ ap step_of t.1) _ c.loop-s.invariant.3))
 
 pub overflow_sub-end : goal.overflow_sub-end
 overflow_sub-end c =
     let t = turn_back c.args.steps.now (length c.loop-s.yielded) c.in-Some.s.now (YieldsList-turn (YieldsList-from_rev_slice c.args.steps.now cc) c.loop-s.yielded _ c.loop-s.yielded_by _ _ c.in-Some.s c.in-Some.is c.next.ensures.steps) in
-    let o = offset_last c.args.steps.now (length c.args.steps.now - length c.loop-s.yielded) _ (omega arith) t.0 _ (c.of-step.ensures ∙ ap step_of t.1) in
+    let o = offset_last c.args.steps.now (length c.args.steps.now - length c.loop-s.yielded) _ (omega arith) t.0 _ (c.from-step.ensures ∙ ap step_of t.1) in
     let n = c.encoded_length-end.ensures.length ∙ ap (λ i. length (encode i)) c.instruction.ensures in
     omega (arith, o, n, c.loop-s.invariant.3)
 
 pub loop-s-preserved : goal.loop-s-preserved
 loop-s-preserved c =
     let t = turn_back c.args.steps.now (length c.loop-s.yielded) c.in-Some.s.now (YieldsList-turn (YieldsList-from_rev_slice c.args.steps.now cc) c.loop-s.yielded _ c.loop-s.yielded_by _ _ c.in-Some.s c.in-Some.is c.next.ensures.steps) in
-    let e = c.of-step.ensures ∙ ap step_of t.1 in
+    let e = c.from-step.ensures ∙ ap step_of t.1 in
     let o = offset_last c.args.steps.now (length c.args.steps.now - length c.loop-s.yielded) _ (omega arith) t.0 _ e in
     let n = c.encoded_length-end.ensures.length ∙ ap (λ i. length (encode i)) c.instruction.ensures in
     let r = recast c.loop-s.invariant.2 (codes_last c.args.steps.now (length c.args.steps.now - length c.loop-s.yielded) _ (omega arith) t.0 _ e _ c.loop-s.invariant.3) in

@@ -1,4 +1,4 @@
-use Rattle.std.proofs.Common.{◌<◌, sym, ap, ◌∙◌, subst, arith}
+use Rattle.std.proofs.Common.{◌<◌, sym, ap, ◌∙◌, subst}
 use Rattle.layout.proofs.Cursors.{room, step}
 use Rattle.plan.specs.UnwindInfos.{frame_byte}
 use Rattle.compile.proofs.Coding.{frame-fits, header_room, headed}
