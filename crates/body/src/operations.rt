@@ -17,7 +17,8 @@ fn start_of(starts: &[u32], function: u8) -> u32
     starts.get(usize::from(function)).copied().unwrap_or(0)
 }
 
-// The instruction of an operation at an RVA, in a module whose functions start at `starts`.
+// The instruction of an operation at an RVA, in a module whose functions start at `starts`. (The two go together, but each
+// call has an RVA of its own: a struct of both would be made anew for each.)
 fn instruction_of(operation: Operation, starts: &[u32], rva: u32) -> Instruction
     requires { rva + 5 < 2 ^ 32 }
     ensures { result ≡ operation_instruction starts.now rva operation }

@@ -41,7 +41,8 @@ pub(crate) fn pop(step: Step) -> Option<Instruction>
     }
 }
 
-// How many bytes the instructions have that `give` gives for the steps.
+// How many bytes the instructions have that `give` gives for the steps. (Up to 10 steps, as in all that counts bytes: a caller's
+// plan may have more until it is checked, so no type of steps says it.)
 pub fn part_size<F: Fn(Step) -> Option<Instruction>>(steps: &[StepRecord], give: F) -> usize
     requires few { length steps.now ≤ 10 }
     requires callable { F.IsAlwaysCallable give }

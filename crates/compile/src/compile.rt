@@ -27,12 +27,12 @@ fn check_one(index: usize, need: usize, room: usize) -> Result<(), PlanRefusal>
 }
 
 // 18 for the first buffer that is too short.
-fn check_room(n: Lengths, code: usize, infos: usize, table: usize) -> Result<(), PlanRefusal>
-    ensures { told result ≡ room_verdict n code infos table }
+fn check_room(need: Lengths, room: Lengths) -> Result<(), PlanRefusal>
+    ensures { told result ≡ room_verdict need room.code room.infos room.table }
 {
-    check_one(0, n.code, code)?;
-    check_one(1, n.infos, infos)?;
-    check_one(2, n.table, table)
+    check_one(0, need.code, room.code)?;
+    check_one(1, need.infos, room.infos)?;
+    check_one(2, need.table, room.table)
 }
 
 // Compiles a plan into the first bytes of three buffers, and answers how many bytes each got; the rest of the buffers stays.
@@ -56,7 +56,12 @@ pub fn compile(
         infos: layout.infos,
         table: 12 * count,
     };
-    check_room(lengths, code.len(), infos.len(), table.len())?;
+    let room = Lengths {
+        code: code.len(),
+        infos: infos.len(),
+        table: table.len(),
+    };
+    check_room(lengths, room)?;
     let rva = info_start(layout.code);
     write_module(plan, &layout.starts[..count], rva, code, infos, table);
     Ok(lengths)

@@ -12,7 +12,7 @@ use plan::text::Plan;
 // Code starts at this RVA, and infos at a multiple of it.
 pub(crate) const FIRST_RVA: usize = 4096;
 
-// As many starts as functions are set. (Their number is the plan's, and the library has no heap for a list of them.)
+// The first of `starts`, as many as the plan has functions, are set: there is no heap for a list of just these.
 #[derive(Clone, Copy)]
 pub(crate) struct Layout {
     pub starts: [u32; 64],
@@ -25,7 +25,7 @@ pub(crate) fn up16(x: usize) -> usize
     requires { x < 2 ^ 32 }
     ensures { result ≡ up 16 x }
 {
-    (x + 15) / 16 * 16
+    x.next_multiple_of(16)
 }
 
 // Where the infos start, after so many bytes of code.
@@ -33,7 +33,7 @@ pub(crate) fn info_start(code: usize) -> usize
     requires { code < 2 ^ 32 }
     ensures { result ≡ 4096 + up 4096 code }
 {
-    FIRST_RVA + (code + 4095) / 4096 * 4096
+    FIRST_RVA + code.next_multiple_of(4096)
 }
 
 pub(crate) fn measure(plan: &Plan) -> Layout
