@@ -1,5 +1,5 @@
 -- The steps of a prologue, and what they lay out together.
-use Rattle.std.specs.Prelude.{◌≡◌, ℕ, ◌+◌, ◌%◌, ◌<◌, ◌≤◌, Bool, true, false, cond, ◌||◌, List, [], ◌∷◌, Some, None, Option, ◌==◌, min}
+use Rattle.std.specs.Prelude.{◌≡◌, ℕ, ◌+◌, ◌%◌, ◌<◌, ◌≤◌, Bool, true, false, cond, List, [], ◌∷◌, Some, None, Option, ◌==◌, min}
 use Rattle.layout.specs.Registers.{preserved}
 use Rattle.x64.specs.declared.instruction.Instruction.{Instruction}
 use Rattle.x64.specs.declared.instruction.Instruction.TheVariants.{Push as PushRegister, SubRsp, StoreAtRsp, LeaAtRsp}

@@ -11,7 +11,8 @@ pub struct Counts {
 }
 
 // A step of a prologue, by kind: 0 pushes the register, 1 allocates `number` bytes, 2 sets the register as frame register at
-// RSP + `number`, 3 saves the register at RSP + `number`. A field that a kind does not use is 0.
+// RSP + `number`, 3 saves the register at RSP + `number`. A field that a kind does not use is 0. The kind stays a number, since a
+// caller may give any, and the check refuses an unknown one.
 #[derive(Clone, Copy, PartialEq, Eq, Debug)]
 pub struct StepRecord {
     pub kind: u8,
@@ -20,7 +21,7 @@ pub struct StepRecord {
 }
 
 // An operation of a body, by kind: 0 does nothing, 1 sets register `first` to `number`, 2 reserves `number` bytes, 3 calls
-// function `first`. A field that a kind does not use is 0.
+// function `first`. A field that a kind does not use is 0. The kind stays a number, as in a step.
 #[derive(Clone, Copy, PartialEq, Eq, Debug)]
 pub struct OperationRecord {
     pub kind: u8,

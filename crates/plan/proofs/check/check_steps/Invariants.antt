@@ -1,4 +1,4 @@
-use Rattle.std.proofs.Common.{◌≡◌, ◌+◌, ◌-◌, ◌≤◌, map, length, take, drop}
+use Rattle.std.proofs.Common.{◌≡◌, ◌+◌, ◌≤◌, map, length, take, drop}
 use Rattle.plan.specs.Steps.{step_of}
 use Rattle.plan.specs.Verdicts.{steps_verdict}
 use Rattle.plan.proofs.check.check_steps.Given as goal
