@@ -1,13 +1,7 @@
-use Rattle.std.proofs.Common.{refl, arith}
-use Rattle.layout.proofs.Cursors.{begin, recast, room, step, finish}
+use Rattle.std.proofs.Common.{arith}
+use Rattle.layout.proofs.Cursors.{recast, room, step, finish}
 use Rattle.body.proofs.Working.{work_one, work_length, work_none}
 use Rattle.body.proofs.operations.write_operations.Goals as goal
-
-pub loop-o-init : goal.loop-o-init
-loop-o-init c = (begin _ _ c.requires.room, refl)
-
-pub instruction_of-i-requires : goal.instruction_of-i-requires
-instruction_of-i-requires c = omega (arith, c.requires.low, c.loop-o.invariant.1)
 
 pub overflow_add-place : goal.overflow_add-place
 overflow_add-place c =

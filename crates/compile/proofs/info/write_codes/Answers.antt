@@ -1,19 +1,14 @@
 use Rattle.std.proofs.Common.{◌≡◌, ◌-◌, ◌∷◌, ◌++◌, [], map, length, take, sym, ap, ◌∙◌, subst, arith}
-use Rattle.std.proofs.lemmas.List.{take_all, length_push, length-reverse}
+use Rattle.std.proofs.lemmas.List.{length_push, length-reverse}
 use Rattle.std.proofs.lemmas.Iterator.Adapters.{YieldsList-from_rev_slice}
 use Rattle.std.proofs.lemmas.Iterator.Consumers.{YieldsList-turn, YieldsList-end}
-use Rattle.layout.proofs.Cursors.{begin, recast, room, step, finish}
+use Rattle.layout.proofs.Cursors.{recast, room, step, finish}
 use Rattle.x64.specs.Encodings.{encode}
 use Rattle.plan.specs.Bodies.{bytes, enter}
 use Rattle.plan.specs.Steps.{step_of, Sound}
 use Rattle.plan.specs.UnwindInfos.{codes}
 use Rattle.compile.proofs.Coding.{turn_back, codes_last, offset_last, codes_none, sound_at}
 use Rattle.compile.proofs.info.write_codes.Goals as goal
-
-pub loop-s-init : goal.loop-s-init
-loop-s-init c =
-    let all = sym (take_all _ c.args.steps.now (omega arith)) in
-    (tt, tt, recast (begin _ _ c.requires.room) (ap (λ l. codes 0 (map step_of l)) all), c.requires.prologue.0 ∙ ap (λ l. length (bytes (enter (map step_of l)))) all, c.requires.prologue.1)
 
 pub write_code-requires-clause-sound : goal.write_code-requires-clause-sound
 write_code-requires-clause-sound c =

@@ -1,6 +1,6 @@
 use Rattle.std.proofs.Common.{arith}
 use Rattle.plan.specs.Functions.{text_of}
-use Rattle.compile.proofs.Filling.{written_none, next_good, next_sound, gap_room, function_room, function_low, code_end, entry_room, info_room, written_on, written_all}
+use Rattle.compile.proofs.Filling.{written_none, next_sound, gap_room, function_room, function_low, code_end, entry_room, info_room, written_on, written_all}
 use Rattle.compile.proofs.writing.write_functions.Goals as goal
 
 pub loop-f-init : goal.loop-f-init
@@ -28,9 +28,6 @@ write_entry-requires c = entry_room c.loop-f.invariant.2 _ _ c.in-Some.ensures.s
 
 pub write_info-requires-clause-sound : goal.write_info-requires-clause-sound
 write_info-requires-clause-sound c = next_sound c.loop-f.invariant.2 _ _ c.in-Some.ensures.steps
-
-pub write_info-requires-clause-few : goal.write_info-requires-clause-few
-write_info-requires-clause-few c = (next_good c.loop-f.invariant.2 _ _ c.in-Some.ensures.steps).few_steps
 
 pub write_info-requires-clause-room : goal.write_info-requires-clause-room
 write_info-requires-clause-room c = info_room c.loop-f.invariant.2 _ _ c.in-Some.ensures.steps _ c.up16-begin.ensures _ c.write_gap.ensures _ c.write_function.ensures
