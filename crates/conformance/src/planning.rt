@@ -1,9 +1,8 @@
 // Frame descriptions as lines give them: COUNTS STEPS OPS.
 use crate::list::{Notation, list};
-use crate::short::narrow;
 use plan::text::{Counts, OperationRecord, Plan, StepRecord};
 use protocol::bad::Bad;
-use protocol::number::signed_number;
+use protocol::number::{number, signed_number};
 use protocol::parts::Parts;
 use std::alloc::Global;
 
@@ -11,8 +10,8 @@ use std::alloc::Global;
 impl Notation for Counts {
     fn read(text: &[u8]) -> Result<Counts, Bad> {
         let mut parts = Parts::new(text, b'.');
-        let steps = narrow(parts.part()?)?;
-        let operations = narrow(parts.part()?)?;
+        let steps = number(parts.part()?)?;
+        let operations = number(parts.part()?)?;
         parts.end()?;
         Ok(Counts { steps, operations })
     }
@@ -22,9 +21,9 @@ impl Notation for Counts {
 impl Notation for StepRecord {
     fn read(text: &[u8]) -> Result<StepRecord, Bad> {
         let mut parts = Parts::new(text, b'.');
-        let kind = narrow(parts.part()?)?;
-        let register = narrow(parts.part()?)?;
-        let number = narrow(parts.part()?)?;
+        let kind = number(parts.part()?)?;
+        let register = number(parts.part()?)?;
+        let number = number(parts.part()?)?;
         parts.end()?;
         Ok(StepRecord {
             kind,
@@ -38,8 +37,8 @@ impl Notation for StepRecord {
 impl Notation for OperationRecord {
     fn read(text: &[u8]) -> Result<OperationRecord, Bad> {
         let mut parts = Parts::new(text, b'.');
-        let kind = narrow(parts.part()?)?;
-        let first = narrow(parts.part()?)?;
+        let kind = number(parts.part()?)?;
+        let first = number(parts.part()?)?;
         let number = signed_number(parts.part()?)?;
         parts.end()?;
         Ok(OperationRecord {

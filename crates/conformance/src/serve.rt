@@ -8,7 +8,7 @@ use crate::viewing::info;
 use protocol::bad::Bad;
 use protocol::parts::Parts;
 use protocol::write::push_decimal;
-use std::alloc::{AllocError, Global};
+use std::alloc::Global;
 use std::io;
 use std::io::{BufRead, BufReader, BufWriter, Write};
 
@@ -33,7 +33,7 @@ fn request(heap: Global, text: &[u8], line: &mut Vec<u8>) -> Result<(), Stop> {
 }
 
 // The answer to a request, in place of what `line` held.
-fn answer(heap: Global, text: &[u8], line: &mut Vec<u8>) -> Result<(), AllocError> {
+fn answer(heap: Global, text: &[u8], line: &mut Vec<u8>) -> io::Result<()> {
     line.clear();
     match request(heap, text, line) {
         Ok(()) => {}
@@ -51,11 +51,11 @@ fn answer(heap: Global, text: &[u8], line: &mut Vec<u8>) -> Result<(), AllocErro
         }
         Err(Stop::Bad(bad)) => {
             line.clear();
-            line.extend_from_slice(b"bad ")?;
-            line.extend_from_slice(bad.reason().as_bytes())?;
+            write!(line, "bad {bad}")?;
         }
     }
-    line.extend_from_slice(b"\n")
+    line.extend_from_slice(b"\n")?;
+    Ok(())
 }
 
 pub fn serve(rt: &HostRuntime) -> io::Result<()> {

@@ -7,13 +7,14 @@ use Rattle.std.specs.Int.Digits.{digits_of, AllBelowBase, number_from_digits}
 use Rattle.std.specs.List.{list_all}
 use Rattle.std.proofs.lemmas.Int.Digits.{digits_value_is, all_below_base_digits_of, number_digits_of, length-digits_of_step}
 use Rattle.std.proofs.lemmas.List.{get_or_past}
+use Rattle.std.proofs.lemmas.List.Sums.{AllPass-from_list_all}
 use Rattle.std.proofs.lemmas.Bool.{cases_lt, cond_both, cond-true, cond-false, lt-ltb, ltb-true, eq-eqb, ne_eqb, eqb-true, eqb-false, and_from, and_left, and_right}
 use Rattle.std.proofs.lemmas.Bool.Decides.{nat_tests}
+use Rattle.std.proofs.lemmas.Str.{digit_value-digit_char}
 use Rattle.protocol.specs.Cuts.{dash}
 use Rattle.protocol.specs.Digits.{figures, decimal, hexadecimal}
 use Rattle.protocol.specs.Reading.{is_digit, numeral_of, prefixed, number_of}
 use Rattle.protocol.specs.Strings.{nibble_of, is_hex, paired, byte_string, pairs, string_of}
-use Rattle.protocol.proofs.Passes.{pass_at}
 
 pub made_always : {X Y : Type 0} (r : Result X Y) (P : X → Type 0) → ((x : X) → P x) → IfOk r P
 made_always (Ok x) P f = f x
@@ -21,20 +22,17 @@ made_always (Err y) P f = tt
 
 -- Numbers.
 
-char_value : (d : ℕ) → d < 36 → digit_value (digit_char d) ≡ d
-char_value d h = grind (arith, nat_tests)
-
 module _ (radix : ℕ) (low : 2 ≤ radix) (high : radix ≤ 36) where
   chars_values : (ds : List ℕ) → AllBelowBase radix ds → map digit_value (map digit_char ds) ≡ ds
   chars_values [] u = refl
   chars_values (d ∷ ds) u =
-      let one = char_value d (omega (arith, u.0)) in
+      let one = digit_value-digit_char d (omega (arith, u.0)) in
       let rest = chars_values ds u.1 in
       cc
 
   chars_digits : (ds : List ℕ) → AllBelowBase radix ds → list_all (is_digit radix) (map digit_char ds) ≡ true
   chars_digits [] u = refl
-  chars_digits (d ∷ ds) u = and_from _ _ (lt-ltb (digit_value (digit_char d)) radix (omega (arith, u.0, char_value d (omega (arith, u.0))))) (chars_digits ds u.1)
+  chars_digits (d ∷ ds) u = and_from _ _ (lt-ltb (digit_value (digit_char d)) radix (omega (arith, u.0, digit_value-digit_char d (omega (arith, u.0))))) (chars_digits ds u.1)
 
   figures_digits : (n : ℕ) → list_all (is_digit radix) (figures radix n) ≡ true
   figures_digits n =
@@ -69,7 +67,7 @@ not_prefixed bs all =
     and_right _ _
     (ne_eqb (get_or bs 1 0) 120
     (λ e. ⊎_elim
-    (λ (h : 1 < length bs). omega (arith, ap digit_value e, ltb-true (digit_value (get_or bs 1 0)) 10 (pass_at (is_digit 10) bs 1 h all)))
+    (λ (h : 1 < length bs). omega (arith, ap digit_value e, ltb-true (digit_value (get_or bs 1 0)) 10 (AllPass-from_list_all (is_digit 10) bs all 1 0 h)))
     (λ (h : length bs ≤ 1). omega (arith, e, get_or_past bs 1 0 h))
     (cases_lt 1 (length bs))))
 

@@ -1,6 +1,4 @@
 pub mod Back
-pub mod Cut
+pub mod Digits
 pub mod Numbers
 pub mod Pairs
-pub mod Passes
-pub mod Values

@@ -1,24 +1,15 @@
 -- The numbers of a record, one by one.
-use Rattle.std.proofs.Common.{◌≡◌, ℕ, suc, ◌+◌, ◌-◌, ◌^◌, ◌<◌, ◌≤◌, cond, List, [], ◌∷◌, ◌++◌, is_some, Some, None, Ok, Err, Option, Result, sym, refl, ap, ◌∙◌, subst, append_assoc, append-nil, arith}
-use native.Mathlib.Nat.{sub-zero}
-use Rattle.std.specs.Option.{option_map}
+use Rattle.std.proofs.Common.{◌≡◌, ℕ, suc, ◌+◌, ◌-◌, ◌^◌, ◌<◌, List, [], ◌∷◌, ◌++◌, Some, None, Ok, Err, Option, Result, sym, refl, ap, ◌∙◌, subst, append_assoc, arith}
 use Rattle.protocol.specs.Cuts.{front, Handed}
 use Rattle.protocol.specs.Reading.{number_of}
 use Rattle.protocol.specs.Records.{followed, numbers_of}
 use Rattle.protocol.specs.declared.bad.Bad.{Bad}
-use Rattle.protocol.specs.declared.bad.Bad.TheVariants.{MissingPart, ExtraPart}
+use Rattle.protocol.specs.declared.bad.Bad.TheVariants.{MissingPart}
 
 -- some numbers before those that are still read
 abbrev pub preceded : List ℕ → Result (List ℕ) Bad → Result (List ℕ) Bad
 preceded ns (Err e) = Err e
 preceded ns (Ok ms) = Ok (ns ++ ms)
-
-preceded_none : (r : Result (List ℕ) Bad) → preceded [] r ≡ r
-preceded_none (Err e) = refl
-preceded_none (Ok ms) = refl
-
-pub numbers_start : (count : ℕ) (bs : List ℕ) (o : Option (List ℕ)) → o ≡ Some bs → numbers_of count (Some bs) ≡ preceded [] (numbers_of (count - 0) o)
-numbers_start count bs o is = sym (preceded_none (numbers_of (count - 0) o) ∙ ap (λ k. numbers_of k o) (sub-zero count) ∙ ap (numbers_of count) is)
 
 preceded_one : (ns : List ℕ) (n : ℕ) (r : Result (List ℕ) Bad) → preceded ns (followed (Ok n) r) ≡ preceded (ns ++ n ∷ []) r
 preceded_one ns n (Err e) = refl
@@ -32,28 +23,19 @@ read_front k (Some bs) p q h =
     let rest = h.1 in
     cc
 
-module _ (count i : ℕ) (within : i < count) (ns : List ℕ) where
-  left : (o : Option (List ℕ)) → preceded ns (numbers_of (count - i) o) ≡ preceded ns (numbers_of (suc (count - (i + 1))) o)
-  left o = let one : count - i ≡ suc (count - (i + 1)) = omega arith in ap (λ k. preceded ns (numbers_of k o)) one
+module _ (count i : ℕ) (within : i < count) (ns : List ℕ) (o : Option (List ℕ)) where
+  left : preceded ns (numbers_of (count - i) o) ≡ preceded ns (numbers_of (suc (count - (i + 1))) o)
+  left = let one : count - i ≡ suc (count - (i + 1)) = omega arith in ap (λ k. preceded ns (numbers_of k o)) one
 
-  pub numbers_missing : {X : Type 0} (now : X → List ℕ) (o : Option X) → o ≡ None → preceded ns (numbers_of (count - i) (option_map now o)) ≡ Err MissingPart
-  numbers_missing now o is = left (option_map now o) ∙ ap (λ v. preceded ns (numbers_of (suc (count - (i + 1))) (option_map now v))) is
+  pub numbers_missing : o ≡ None → preceded ns (numbers_of (count - i) o) ≡ Err MissingPart
+  numbers_missing is = left ∙ ap (λ v. preceded ns (numbers_of (suc (count - (i + 1))) v)) is
 
-  module _ (s : ℕ) (dot : s ≡ 46) (o : Option (List ℕ)) (p : List ℕ) (q : Option (List ℕ)) (handed : Handed s o (Some p) q) where
-    reads : (r : Result ℕ Bad) → r ≡ number_of (2 ^ 64) p → preceded ns (numbers_of (count - i) o) ≡ preceded ns (followed r (numbers_of (count - (i + 1)) q))
-    reads r is = left o ∙ ap (preceded ns) (read_front (count - (i + 1)) o p q (subst (λ v. Handed v o (Some p) q) dot handed) ∙ ap (λ v. followed v (numbers_of (count - (i + 1)) q)) (sym is))
+  module _ (s : ℕ) (dot : s ≡ 46) (p : List ℕ) (q : Option (List ℕ)) (handed : Handed s o (Some p) q) where
+    reads : (r : Result ℕ Bad) → number_of (2 ^ 64) p ≡ r → preceded ns (numbers_of (count - i) o) ≡ preceded ns (followed r (numbers_of (count - (i + 1)) q))
+    reads r is = left ∙ ap (preceded ns) (read_front (count - (i + 1)) o p q (subst (λ v. Handed v o (Some p) q) dot handed) ∙ ap (λ v. followed v (numbers_of (count - (i + 1)) q)) is)
 
-    pub numbers_more : (n : ℕ) → Ok n ≡ number_of (2 ^ 64) p → preceded ns (numbers_of (count - i) o) ≡ preceded (ns ++ n ∷ []) (numbers_of (count - (i + 1)) q)
+    pub numbers_more : (n : ℕ) → number_of (2 ^ 64) p ≡ Ok n → preceded ns (numbers_of (count - i) o) ≡ preceded (ns ++ n ∷ []) (numbers_of (count - (i + 1)) q)
     numbers_more n is = reads (Ok n) is ∙ preceded_one ns n (numbers_of (count - (i + 1)) q)
 
-    pub numbers_stop : (e : Bad) → Err e ≡ number_of (2 ^ 64) p → preceded ns (numbers_of (count - i) o) ≡ Err e
+    pub numbers_stop : (e : Bad) → number_of (2 ^ 64) p ≡ Err e → preceded ns (numbers_of (count - i) o) ≡ Err e
     numbers_stop e is = reads (Err e) is
-
--- at the end, where nothing may be left
-module _ {X : Type 0} (now : X → List ℕ) (count i : ℕ) (end : count ≤ i) (ns : List ℕ) where
-  done : count - i ≡ 0
-  done = omega arith
-
-  pub numbers_all : (o : Option X) → ◌≡◌ {A = Result (Unit {0}) Bad} (Ok tt) (cond (is_some o) (Err ExtraPart) (Ok tt)) → preceded ns (numbers_of (count - i) (option_map now o)) ≡ Ok ns
-  numbers_all None is = ap (λ k. preceded ns (numbers_of k None)) done ∙ ap Ok (append-nil ns)
-  numbers_all (Some x) is = let z : ◌≡◌ {A = ℕ} 0 1 = cc in absurd (omega arith)

@@ -1,43 +1,30 @@
 -- Pairs of hexadecimal digits, step by step.
-use Rattle.std.proofs.Common.{◌≡◌, ℕ, ◌+◌, ◌*◌, ◌/◌, ◌%◌, ◌<◌, ◌≤◌, true, List, [], ◌∷◌, ◌++◌, length, get_or, drop, sym, refl, ap, ◌∙◌, append_assoc, append-nil, arith, length-drop}
-use Rattle.std.specs.Char.{digit_char}
+use Rattle.std.proofs.Common.{◌≡◌, ℕ, zero, suc, ◌+◌, ◌*◌, ◌<◌, ◌≤◌, true, List, [], ◌∷◌, map, length, get_or, refl, ap, arith}
 use Rattle.std.specs.List.{list_all}
-use Rattle.std.proofs.lemmas.List.{drop_more, at_drop_more, at_drop_all}
-use Rattle.std.proofs.lemmas.Bool.{ltb-true}
-use Rattle.protocol.specs.Strings.{nibble_of, is_hex, paired, pairs}
-use Rattle.protocol.proofs.Passes.{pass_at}
+use Rattle.std.specs.Simd.{first_chunks}
+use Rattle.std.proofs.lemmas.Bool.{and_parts}
+use Rattle.protocol.specs.Strings.{nibble_of, is_hex, paired}
 
-pub nibble_small : (bs : List ℕ) (i : ℕ) → i < length bs → list_all is_hex bs ≡ true → nibble_of (get_or bs i 0) < 16
-nibble_small bs i h a = ltb-true _ _ (pass_at is_hex bs i h a)
+-- the byte that a pair of digits writes
+abbrev pub pair_byte : List ℕ → ℕ
+pair_byte p = 16 * nibble_of (get_or p 0 0) + nibble_of (get_or p 1 0)
 
-pub paired-short : (bs : List ℕ) → length bs ≤ 1 → paired bs ≡ []
-paired-short [] h = refl
-paired-short (a ∷ []) h = refl
-paired-short (a ∷ b ∷ bs) h = absurd (omega arith)
+pub paired_chunks : (k : ℕ) (bs : List ℕ) → 2 * k ≤ length bs → length bs < 2 * k + 2 → paired bs ≡ map pair_byte (first_chunks 2 k bs)
+paired_chunks zero [] low high = refl
+paired_chunks zero (a ∷ []) low high = refl
+paired_chunks zero (a ∷ b ∷ bs) low high = absurd (omega arith)
+paired_chunks (suc k) [] low high = absurd (omega arith)
+paired_chunks (suc k) (a ∷ []) low high = absurd (omega arith)
+paired_chunks (suc k) (a ∷ b ∷ bs) low high = ap (λ ds. (16 * nibble_of a + nibble_of b) ∷ ds) (paired_chunks k bs (omega arith) (omega arith))
 
--- the byte of the pair at a place
-abbrev pub pair_at : List ℕ → ℕ → ℕ
-pair_at bs k = 16 * nibble_of (get_or bs k 0) + nibble_of (get_or bs (k + 1) 0)
-
-paired-next : (bs : List ℕ) (k : ℕ) → k + 1 < length bs → paired (drop k bs) ≡ pair_at bs k ∷ paired (drop (k + 1 + 1) bs)
-paired-next bs k h = ap paired (drop_more bs k 0 (omega arith) ∙ ap (λ ds. get_or bs k 0 ∷ ds) (drop_more bs (k + 1) 0 h))
-
-pub paired_more : (bs done : List ℕ) (i : ℕ) → 2 * i + 1 < length bs → paired bs ≡ done ++ paired (drop (2 * i) bs) → paired bs ≡ (done ++ pair_at bs (2 * i) ∷ []) ++ paired (drop (2 * (i + 1)) bs)
-paired_more bs done i h is =
-    let two : 2 * i + 1 + 1 ≡ 2 * (i + 1) = omega arith in
-    let next = paired-next bs (2 * i) h ∙ ap (λ k. pair_at bs (2 * i) ∷ paired (drop k bs)) two in
-    is ∙ ap (λ ds. done ++ ds) next ∙ sym (append_assoc done (pair_at bs (2 * i) ∷ []) (paired (drop (2 * (i + 1)) bs)))
-
-pub paired_all : (bs done : List ℕ) (k : ℕ) → length bs ≤ k + 1 → paired bs ≡ done ++ paired (drop k bs) → done ≡ paired bs
-paired_all bs done k h is = sym (is ∙ ap (λ ds. done ++ ds) (paired-short (drop k bs) (omega (arith, length-drop k bs))) ∙ append-nil done)
-
--- one more byte written
-pub pairs_more : (bs done : List ℕ) (i : ℕ) → i < length bs → ((done ++ digit_char (get_or bs i 0 / 16) ∷ []) ++ digit_char (get_or bs i 0 % 16) ∷ []) ++ pairs (drop (i + 1) bs) ≡ done ++ pairs (drop i bs)
-pairs_more bs done i h =
-    let high = digit_char (get_or bs i 0 / 16) in
-    let low = digit_char (get_or bs i 0 % 16) in
-    let rest = pairs (drop (i + 1) bs) in
-    append_assoc (done ++ high ∷ []) (low ∷ []) rest ∙ append_assoc done (high ∷ []) (low ∷ rest) ∙ ap (λ ds. done ++ ds) (sym (at_drop_more pairs bs i 0 h))
-
-pub pairs_all : (bs done old : List ℕ) (i : ℕ) → length bs ≤ i → done ++ pairs (drop i bs) ≡ old ++ pairs bs → done ≡ old ++ pairs bs
-pairs_all bs done old i h is = sym (append-nil done) ∙ ap (λ ds. done ++ ds) (sym (at_drop_all pairs bs i h)) ∙ is
+-- both digits of a pair are hexadecimal where all are
+pub chunk_hex : (k i : ℕ) (bs : List ℕ) → i < k → 2 * k ≤ length bs → list_all is_hex bs ≡ true → (is_hex (get_or (get_or (first_chunks 2 k bs) i []) 0 0) ≡ true) × (is_hex (get_or (get_or (first_chunks 2 k bs) i []) 1 0) ≡ true)
+chunk_hex zero i bs h low all = absurd (omega arith)
+chunk_hex (suc k) i [] h low all = absurd (omega arith)
+chunk_hex (suc k) i (a ∷ []) h low all = absurd (omega arith)
+chunk_hex (suc k) zero (a ∷ b ∷ bs) h low all =
+    let first = and_parts (is_hex a) (list_all is_hex (b ∷ bs)) all in
+    (first.0, (and_parts (is_hex b) (list_all is_hex bs) first.1).0)
+chunk_hex (suc k) (suc i) (a ∷ b ∷ bs) h low all =
+    let first = and_parts (is_hex a) (list_all is_hex (b ∷ bs)) all in
+    chunk_hex k i bs (omega arith) (omega arith) (and_parts (is_hex b) (list_all is_hex bs) first.1).1

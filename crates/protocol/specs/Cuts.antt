@@ -14,6 +14,11 @@ front s bs = take (before s bs) bs
 abbrev pub after : ℕ → List ℕ → Option (List ℕ)
 after s bs = cond (nat_lt (before s bs) (length bs)) (Some (drop (before s bs + 1) bs)) None
 
+-- what is still to be cut, if a part is left, and at which separator
+pub record Uncut : Type 0 where
+  pub rest : Option (List ℕ)
+  pub separator : ℕ
+
 -- from what was left to what is left, a part was handed out if there was one
 abbrev pub Handed : ℕ → Option (List ℕ) → Option (List ℕ) → Option (List ℕ) → Type 0
 Handed s None part left = (part ≡ None) × (left ≡ None)

@@ -1,5 +1,5 @@
 // Byte strings: two lower-case hexadecimal digits a byte, or `-` for none.
-ghost use Rattle.std.specs.Prelude.{◌≡◌, true, ◌⊎◌, Ok, Err, MatchResult};
+ghost use Rattle.std.specs.Prelude.{◌≡◌, true, ◌⊎◌, Ok, Err, Some, None, MatchResult, if◌then◌else◌};
 ghost use Rattle.std.specs.List.{list_all};
 ghost use Rattle.protocol.specs.Strings.{nibble_of, is_hex, paired, byte_string};
 ghost use Rattle.protocol.specs.declared.bad.Bad.TheVariants.{NoMemory};
@@ -8,26 +8,21 @@ use crate::bad::Bad;
 use crate::parts::is_dash;
 use std::alloc::Global;
 
-// The value of a digit, or 16 where the byte is none.
-fn nibble(b: u8) -> u8
-    ensures { result ≡ nibble_of b }
+// The value of a digit. The library's `to_digit` would take upper case too.
+fn nibble(b: u8) -> Option<u8>
+    ensures { result ≡ (if is_hex b then Some (nibble_of b) else None) }
 {
     match b {
-        b'0'..=b'9' => b - b'0',
-        b'a'..=b'f' => b - b'a' + 10,
-        _ => 16,
+        b'0'..=b'9' => Some(b - b'0'),
+        b'a'..=b'f' => Some(b - b'a' + 10),
+        _ => None,
     }
 }
 
 fn all_hex(text: &[u8]) -> bool
     ensures { result ≡ list_all is_hex text.now }
 {
-    for b in text {
-        if nibble(*b) >= 16 {
-            return false;
-        }
-    }
-    true
+    text.iter().all(|b| nibble(*b).is_some())
 }
 
 // The bytes that pairs of digits write.
@@ -35,11 +30,10 @@ fn joined(heap: Global, text: &[u8]) -> Result<Vec<u8>, Bad>
     requires { list_all is_hex text.now ≡ true }
     ensures { MatchResult result (λ v. v.items ≡ paired text.now) (λ e. e ≡ NoMemory) }
 {
-    let mut all = Vec::with_capacity(heap, text.len() / 2)?;
-    for i in 0..text.len() / 2 {
-        let high = nibble(text[2 * i]);
-        let low = nibble(text[2 * i + 1]);
-        all.push(16 * high + low)?;
+    let (pairs, _) = text.as_chunks::<2>();
+    let mut all = Vec::with_capacity(heap, pairs.len())?;
+    for [high, low] in pairs {
+        all.push(16 * nibble(*high).unwrap() + nibble(*low).unwrap())?;
     }
     Ok(all)
 }

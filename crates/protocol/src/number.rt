@@ -1,107 +1,141 @@
 // Numbers: decimal, or hexadecimal after `0x`, with digits of either case; signed ones may have `-` in front.
-ghost use Rattle.std.specs.Prelude.{◌≡◌, ◌+◌, ◌^◌, ◌≤◌, T, length, IfOk, if◌then◌else◌, Some, None, nat_lt};
-ghost use Rattle.std.specs.Str.Parse.{digits_value};
-ghost use Rattle.std.specs.Char.{digit_value};
+ghost use Rattle.std.specs.Prelude.{◌≡◌, ℕ, ◌+◌, ◌-◌, ◌^◌, ◌≤◌, IfOk};
 ghost use Rattle.std.specs.List.{list_all};
-ghost use Rattle.protocol.specs.Reading.{is_digit, numeral_of, prefixed, number_of, signed_of};
+ghost use Rattle.std.specs.Result.{result_map_both};
+ghost use Rattle.protocol.specs.Reading.{is_digit, numeral_of, number_of, signed_of};
 
 use crate::bad::Bad;
 
-// The value of a digit in any base up to 36, or 36 where the byte is no digit.
-fn digit_value(b: u8) -> u8
-    ensures { result ≡ digit_value b }
-{
-    match b {
-        b'0'..=b'9' => b - b'0',
-        b'a'..=b'z' => b - b'a' + 10,
-        b'A'..=b'Z' => b - b'A' + 10,
-        _ => 36,
-    }
-}
-
-fn all_digits(text: &[u8], radix: u8) -> bool
+fn all_digits(text: &[u8], radix: u32) -> bool
+    requires low { 2 ≤ radix }
+    requires high { radix ≤ 36 }
     ensures { result ≡ list_all (is_digit radix) text.now }
 {
-    for b in text {
-        if digit_value(*b) >= radix {
-            return false;
-        }
-    }
-    true
-}
-
-// The number that digits write, or none where 128 bits do not hold it.
-fn digits_value(text: &[u8], radix: u8) -> Option<u128>
-    requires { 1 ≤ radix }
-    ensures { result ≡ (if nat_lt (digits_value radix text.now) (2 ^ 128) then Some (digits_value radix text.now) else None) }
-{
-    let mut n: u128 = 0;
-    for b in text {
-        let shifted = n.checked_mul(u128::from(radix))?;
-        n = shifted.checked_add(u128::from(digit_value(*b)))?;
-    }
-    Some(n)
+    text.iter().all(|b| char::from(*b).is_digit(radix))
 }
 
 // A number of at most `most`, in digits alone.
-fn numeral(text: &[u8], radix: u8, most: u128) -> Result<u128, Bad>
-    requires { 1 ≤ radix }
+fn numeral(text: &[u8], radix: u32, most: u128) -> Result<u128, Bad>
+    requires low { 2 ≤ radix }
+    requires high { radix ≤ 36 }
     ensures value { result ≡ numeral_of (most + 1) radix text.now }
     ensures bound { IfOk result (λ n. n ≤ most) }
 {
     if text.is_empty() || !all_digits(text, radix) {
         return Err(Bad::NotANumber);
     }
-    match digits_value(text, radix) {
-        Some(n) if n <= most => Ok(n),
+    let digits = str::from_utf8(text).unwrap();
+    match u128::from_str_radix(digits, radix) {
+        Ok(n) if n <= most => Ok(n),
         _ => Err(Bad::TooLarge),
     }
-}
-
-fn is_prefixed(text: &[u8]) -> bool
-    ensures value { result ≡ prefixed text.now }
-    ensures room { T result → 2 ≤ length text.now }
-{
-    if text.len() < 2 {
-        return false;
-    }
-    text[0] == b'0' && text[1] == b'x'
 }
 
 fn number_up_to(text: &[u8], most: u128) -> Result<u128, Bad>
     ensures value { result ≡ number_of (most + 1) text.now }
     ensures bound { IfOk result (λ n. n ≤ most) }
 {
-    if is_prefixed(text) {
-        numeral(&text[2..], 16, most)
-    } else {
-        numeral(text, 10, most)
+    match text.strip_prefix(b"0x") {
+        Some(digits) => numeral(digits, 16, most),
+        None => numeral(text, 10, most),
     }
 }
 
-// A number of up to 128 bits.
-pub fn wide_number(text: &[u8]) -> Result<u128, Bad>
-    ensures { result ≡ number_of (2 ^ 128) text.now }
-{
-    number_up_to(text, u128::MAX)
+// The unsigned types that a number is read as. The library's `TryFrom` takes no number of 128 bits.
+pub trait Unsigned {
+    ghost MOST: { ℕ };
+
+    // The largest number that the type holds.
+    const MOST: u128;
+
+    // The number that a value is.
+    ghost value: { Self → ℕ };
+
+    fn narrowed(n: u128) -> Self
+        requires { n ≤ MOST }
+        ensures { value result ≡ n };
 }
 
-// A number of up to 64 bits.
-pub fn number(text: &[u8]) -> Result<u64, Bad>
-    ensures { result ≡ number_of (2 ^ 64) text.now }
-{
-    let n = number_up_to(text, 0xffff_ffff_ffff_ffff)?;
-    Ok(n as u64)
+impl Unsigned for u8 {
+    ghost MOST = { 2 ^ 8 - 1 };
+
+    const MOST: u128 = u8::MAX as u128;
+
+    ghost value = { λ n. n };
+
+    fn narrowed(n: u128) -> u8 {
+        n as u8
+    }
 }
 
-// A signed number of 32 bits, negative after `-`.
+impl Unsigned for u16 {
+    ghost MOST = { 2 ^ 16 - 1 };
+
+    const MOST: u128 = u16::MAX as u128;
+
+    ghost value = { λ n. n };
+
+    fn narrowed(n: u128) -> u16 {
+        n as u16
+    }
+}
+
+impl Unsigned for u32 {
+    ghost MOST = { 2 ^ 32 - 1 };
+
+    const MOST: u128 = u32::MAX as u128;
+
+    ghost value = { λ n. n };
+
+    fn narrowed(n: u128) -> u32 {
+        n as u32
+    }
+}
+
+impl Unsigned for u64 {
+    ghost MOST = { 2 ^ 64 - 1 };
+
+    const MOST: u128 = u64::MAX as u128;
+
+    ghost value = { λ n. n };
+
+    fn narrowed(n: u128) -> u64 {
+        n as u64
+    }
+}
+
+impl Unsigned for u128 {
+    ghost MOST = { 2 ^ 128 - 1 };
+
+    const MOST: u128 = u128::MAX;
+
+    ghost value = { λ n. n };
+
+    fn narrowed(n: u128) -> u128 {
+        n
+    }
+}
+
+// A number that `T` holds.
+pub fn number<T: Unsigned>(text: &[u8]) -> Result<T, Bad>
+    ensures { result_map_both T.value (λ e. e) result ≡ number_of (T.MOST + 1) text.now }
+{
+    let n = number_up_to(text, T::MOST)?;
+    Ok(T::narrowed(n))
+}
+
+// A signed number of 32 bits, negative after `-`. The casts are proved, and `TryFrom` takes no number of 128 bits.
 pub fn signed_number(text: &[u8]) -> Result<i32, Bad>
     ensures { result ≡ signed_of text.now }
 {
-    if text.is_empty() || text[0] != b'-' {
-        let n = number_up_to(text, 0x7fff_ffff)?;
-        return Ok(n as i32);
+    match text.strip_prefix(b"-") {
+        Some(digits) => {
+            let n = number_up_to(digits, 0x8000_0000)?;
+            Ok(-(n as i64) as i32)
+        }
+        None => {
+            let n = number_up_to(text, 0x7fff_ffff)?;
+            Ok(n as i32)
+        }
     }
-    let n = number_up_to(&text[1..], 0x8000_0000)?;
-    Ok(-(n as i64) as i32)
 }

@@ -12,9 +12,9 @@ pub fn record<const N: usize>(text: &[u8]) -> Result<[u64; N], Bad>
 {
     let mut parts = Parts::new(text, b'.');
     let mut all = [0; N];
-    for i in 0..N {
+    for slot in &mut all {
         let part = parts.part()?;
-        all[i] = number(part)?;
+        *slot = number(part)?;
     }
     parts.end()?;
     Ok(all)

@@ -8,7 +8,7 @@ ghost use Rattle.protocol.specs.Strings.{byte_string, pairs, string_of};
 
 use std::alloc::AllocError;
 
-// The character of a digit.
+// The character of a digit. The library's `from_digit` gives an `Option<char>`, which is longer to turn into a byte.
 fn digit_char(d: u8) -> u8
     requires { d < 16 }
     ensures { result ≡ digit_char d }
@@ -16,7 +16,8 @@ fn digit_char(d: u8) -> u8
     if d < 10 { b'0' + d } else { b'a' + (d - 10) }
 }
 
-// The digits of `n`, the highest first, and none for 0.
+// The digits of `n`, the highest first, and none for 0. The library's printing says which hexadecimal digits it writes
+// only up to 64 bits.
 fn push_digits(line: &mut Vec<u8>, base: u128, n: u128) -> Result<(), AllocError>
     requires low { 2 ≤ base }
     requires high { base ≤ 16 }
@@ -54,8 +55,7 @@ pub fn push_hex(line: &mut Vec<u8>, n: u128) -> Result<(), AllocError>
     ensures back { OnOk result ((limit : ℕ) → n < limit → number_of limit (hexadecimal n) ≡ Ok n) }
 {
     line.extend_from_slice(b"0x")?;
-    push_figures(line, 16, n)?;
-    Ok(())
+    push_figures(line, 16, n)
 }
 
 fn push_pairs(line: &mut Vec<u8>, bytes: &[u8]) -> Result<(), AllocError>
@@ -77,6 +77,5 @@ pub fn push_bytes(line: &mut Vec<u8>, bytes: &[u8]) -> Result<(), AllocError>
         line.push(b'-')?;
         return Ok(());
     }
-    push_pairs(line, bytes)?;
-    Ok(())
+    push_pairs(line, bytes)
 }

@@ -1,11 +1,5 @@
-use Rattle.std.proofs.Common.{[], ◌∷◌, vec_items, append_assoc}
-use Rattle.protocol.specs.Digits.{figures}
-use Rattle.protocol.proofs.Back.{hexadecimal_back}
+use Rattle.protocol.proofs.Back.{made_always, hexadecimal_back}
 use Rattle.protocol.proofs.write.push_hex.Goals as goal
 
-pub returns : goal.returns
-returns c =
-    let digits = c.in_ok-push_figures.ensures in
-    let start = c.in_ok-extend_from_slice.ensures.items in
-    let all = append_assoc (vec_items c.args.line.now) (48 ∷ 120 ∷ []) (figures 16 c.args.n) in
-    record { text = cc; back = hexadecimal_back c.args.n }
+pub returns-clause-back : goal.returns-clause-back
+returns-clause-back c = made_always c.push_figures.result _ (λ _. hexadecimal_back c.args.n)
