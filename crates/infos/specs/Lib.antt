@@ -1,4 +1,5 @@
 pub mod Codes
+pub mod Codings
 pub mod Infos
 pub mod Listings
 pub mod Refusals

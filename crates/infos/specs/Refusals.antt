@@ -1,5 +1,6 @@
 -- Refusals of infos, by number and slot.
 use Rattle.std.specs.Prelude.{ℕ, Result}
+use Rattle.std.specs.Option.{unwrap_or}
 use Rattle.std.specs.Result.{result_map_both}
 use Rattle.infos.specs.declared.refusal.InfoReason.{InfoReason}
 use Rattle.infos.specs.declared.refusal.InfoReason.TheVariants.{Cut, Version, Flags, BadCode, PastCount, Disorder}
@@ -24,7 +25,7 @@ abbrev pub fault_at : ℕ → ℕ → InfoFault
 fault_at slot number = record { number = number; slot = slot }
 
 abbrev pub info_fault : InfoRefusal → InfoFault
-info_fault e = fault_at e.slot (reason_number e.reason)
+info_fault e = fault_at (unwrap_or e.slot 65535) (reason_number e.reason)
 
 abbrev pub info_number : InfoRefusal → ℕ
 info_number e = (info_fault e).number

@@ -35,5 +35,25 @@ before_codes prologue = record { limit = prologue; frame_set = false }
 unfoldable pub codes_of : ℕ → ℕ → List ℕ → Result (List Code) InfoFault
 codes_of prologue frame ss = codes_from (length ss) frame (before_codes prologue) 0 ss
 
+-- the code that bytes at a slot begin with, how many slots it takes, and what holds after it
+abbrev pub taken : ℕ → Progress → ℕ → List ℕ → Result ((Code × ℕ) × Progress) InfoFault
+taken frame s slot bs = bind (at_slot slot (decoded_in slot bs)) (λ p. bind (at_slot slot (admitted frame s p.0)) (λ t. Ok (p, t)))
+
+-- a code that was taken with what follows it, or its refusal, which nothing follows
+abbrev pub followed : Result ((Code × ℕ) × Progress) InfoFault → ((Code × ℕ) × Progress → List (Result Code InfoFault)) → List (Result Code InfoFault)
+followed (Ok p) f = Ok p.0.0 ∷ f p
+followed (Err e) f = Err e ∷ []
+
+-- the same codes one by one, up to the first refusal
+unfoldable pub outcomes : ℕ → ℕ → Progress → ℕ → List ℕ → List (Result Code InfoFault)
+outcomes zero frame s slot bs = []
+outcomes (suc fuel) frame s slot bs =
+    cond (nat_le 2 (length bs)) (followed (taken frame s slot bs) (λ p. outcomes fuel frame p.1 (slot + p.0.1) (drop (2 * p.0.1) bs))) []
+
+-- what answers one by one come to: the first refusal is the answer
+abbrev pub gathered : {X : Type 0} → List (Result X InfoFault) → Result (List X) InfoFault
+gathered [] = Ok []
+gathered (r ∷ rs) = bind r (λ x. bind (gathered rs) (λ xs. Ok (x ∷ xs)))
+
 abbrev pub counted : Result (List Code) InfoFault → Result ℕ InfoFault
 counted r = bind r (λ cs. Ok (length cs))

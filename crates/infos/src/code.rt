@@ -1,14 +1,15 @@
 // Unwind codes, decoded one by one.
-ghost use Rattle.std.specs.Prelude.{◌≡◌, ℕ, ◌+◌, ◌*◌, ◌≤◌, length, IfOk, MatchResult};
+ghost use Rattle.std.specs.Prelude.{◌≡◌, ℕ, ◌+◌, ◌*◌, ◌^◌, ◌<◌, ◌≤◌, length, IfOk, MatchResult};
 ghost use Rattle.std.specs.Result.{result_map_both};
+ghost use Rattle.layout.specs.Words.{le_at};
 ghost use Rattle.infos.specs.Codes.{width, meant, decoded_in, code_at};
 ghost use Rattle.infos.specs.Refusals.{reason_number};
 
 use crate::refusal::InfoReason;
-use layout::word::{u16_at, u32_at};
+use layout::word::le_at;
 
 // What an instruction of the prologue did. Registers are by number, offsets in bytes from the base of saves.
-#[derive(Clone, Copy)]
+#[derive(Clone, Copy, PartialEq, Eq, Debug)]
 pub enum Operation {
     Push(u8),
     Allocate(u32),
@@ -18,7 +19,7 @@ pub enum Operation {
 }
 
 // An operation with its first slot, and the prologue offset of its instruction's end.
-#[derive(Clone, Copy)]
+#[derive(Clone, Copy, PartialEq, Eq, Debug)]
 pub struct Code {
     pub slot: usize,
     pub offset: u8,
@@ -43,6 +44,16 @@ fn slots_of(op: u8, info: u8) -> Result<usize, InfoReason>
     }
 }
 
+// The 16 bits past a code's first slot.
+fn short_at(bytes: &[u8]) -> u32
+    requires { 4 ≤ length bytes.now }
+    ensures value { result ≡ le_at 2 bytes.now 2 }
+    ensures bound { result < 2 ^ 16 }
+{
+    let short: u16 = le_at(bytes, 2);
+    u32::from(short)
+}
+
 // What a code does, by its operation, its info and its slots.
 fn meaning(op: u8, info: u8, bytes: &[u8]) -> Operation
     requires { MatchResult (width op info) (λ n. 2 * n ≤ length bytes.now) (λ _. ⊥) }
@@ -50,31 +61,31 @@ fn meaning(op: u8, info: u8, bytes: &[u8]) -> Operation
 {
     match op {
         0 => Operation::Push(info),
-        1 if info == 0 => Operation::Allocate(8 * u16_at(bytes, 2) as u32),
-        1 => Operation::Allocate(u32_at(bytes, 2)),
+        1 if info == 0 => Operation::Allocate(8 * short_at(bytes)),
+        1 => Operation::Allocate(le_at(bytes, 2)),
         2 => Operation::Allocate(8 * info as u32 + 8),
         3 => Operation::SetFrame,
         4 => Operation::Save {
             register: info,
-            offset: 8 * u16_at(bytes, 2) as u32,
+            offset: 8 * short_at(bytes),
         },
         5 => Operation::Save {
             register: info,
-            offset: u32_at(bytes, 2),
+            offset: le_at(bytes, 2),
         },
         8 => Operation::SaveXmm {
             register: info,
-            offset: 16 * u16_at(bytes, 2) as u32,
+            offset: 16 * short_at(bytes),
         },
         _ => Operation::SaveXmm {
             register: info,
-            offset: u32_at(bytes, 2),
+            offset: le_at(bytes, 2),
         },
     }
 }
 
 // The code that `bytes` begin with, which stands at this slot, and how many slots it takes.
-fn decode_first(slot: usize, bytes: &[u8]) -> Result<(Code, usize), InfoReason>
+pub(crate) fn decode_first(slot: usize, bytes: &[u8]) -> Result<(Code, usize), InfoReason>
     requires { 2 ≤ length bytes.now }
     ensures value { result_map_both (λ p. p) reason_number result ≡ decoded_in slot bytes.now }
     ensures within { IfOk result (λ p. (1 ≤ p.1) × (2 * p.1 ≤ length bytes.now)) }

@@ -2,7 +2,9 @@
 #![tactic(auto)]
 
 pub mod code;
+pub mod codes;
 pub mod info;
 pub mod listing;
+pub mod reading;
 pub mod refusal;
 pub mod sequence;

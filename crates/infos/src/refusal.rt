@@ -1,47 +1,59 @@
 // Why an unwind info is refused.
-ghost use Rattle.std.specs.Prelude.{◌≡◌};
-ghost use Rattle.infos.specs.Refusals.{reason_number, info_number, list_number, in_slot, told};
+ghost use Rattle.std.specs.Prelude.{◌≡◌, None};
+ghost use Rattle.infos.specs.Refusals.{reason_number, info_fault, info_number, list_number};
 ghost use Rattle.infos.specs.declared.refusal.ListRefusal.TheVariants.{BadInfo};
 
 use layout::refusal::Numbered;
 
 #[derive(Clone, Copy, PartialEq, Eq, Debug)]
 pub enum InfoReason {
-    // 40: misplaced, or cut off by the area's end.
-    Cut,
-    // 41: another version than 1.
-    Version,
-    // 42: flags above 4.
-    Flags,
-    // 43: frame register 4, or a code that is none.
-    BadCode,
-    // 44: a code's slots pass the slot count.
-    PastCount,
-    // 45: a code's offset is above the prologue's size, or above the one before it.
-    Disorder,
+    // Misplaced, or cut off by the area's end.
+    Cut = 40,
+    // Another version than 1.
+    Version = 41,
+    // Flags above 4.
+    Flags = 42,
+    // Frame register 4, or a code that is none.
+    BadCode = 43,
+    // A code's slots pass the slot count.
+    PastCount = 44,
+    // A code's offset is above the prologue's size, or above the one before it.
+    Disorder = 45,
 }
 
-// A reason, with the slot of the code at work, or OUTSIDE_CODES.
+// A reason, with the slot of the code at work, or none outside codes.
 #[derive(Clone, Copy, PartialEq, Eq, Debug)]
 pub struct InfoRefusal {
     pub reason: InfoReason,
-    pub slot: u16,
+    pub slot: Option<u16>,
 }
 
+// How a slot is written where there is none.
 pub const OUTSIDE_CODES: u16 = 65535;
+
+impl InfoRefusal {
+    // The slot of the code at work, or OUTSIDE_CODES.
+    pub fn slot_number(&self) -> u16
+        ensures { result ≡ (info_fault self.now).slot }
+    {
+        self.slot.unwrap_or(OUTSIDE_CODES)
+    }
+}
+
+// A refusal outside codes.
+impl From<InfoReason> for InfoRefusal {
+    ghost from_gives = { λ e r. r ≡ record { reason = e; slot = None } };
+
+    fn from(reason: InfoReason) -> InfoRefusal {
+        InfoRefusal { reason, slot: None }
+    }
+}
 
 impl Numbered for InfoReason {
     ghost number = { reason_number };
 
     fn number(&self) -> u16 {
-        match self {
-            InfoReason::Cut => 40,
-            InfoReason::Version => 41,
-            InfoReason::Flags => 42,
-            InfoReason::BadCode => 43,
-            InfoReason::PastCount => 44,
-            InfoReason::Disorder => 45,
-        }
+        *self as u16
     }
 }
 
@@ -50,16 +62,6 @@ impl Numbered for InfoRefusal {
 
     fn number(&self) -> u16 {
         self.reason.number()
-    }
-}
-
-// The same answer, with the slot at work added to a refusal.
-pub(crate) fn in_slot<T>(r: Result<T, InfoReason>, slot: u16) -> Result<T, InfoRefusal>
-    ensures { told result ≡ in_slot slot r }
-{
-    match r {
-        Ok(x) => Ok(x),
-        Err(reason) => Err(InfoRefusal { reason, slot }),
     }
 }
 

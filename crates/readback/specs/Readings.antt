@@ -78,7 +78,7 @@ pub record ModuleOf : Type 0 where
   pub start : ℕ
 
 abbrev pub module_view : Module → ModuleOf
-module_view m = record { base = m.base.0; size = m.size; entries = m.entries.now; area = m.area.now; start = m.area_start.0 }
+module_view m = record { base = m.extent.base.0; size = m.extent.size; entries = m.entries.now; area = m.area.bytes.now; start = m.area.start.0 }
 
 -- each function's steps: 35 and 36 for the module first
 abbrev pub module_steps : ModuleOf → Result (List (List StepRecord)) InfoFault

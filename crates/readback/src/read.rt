@@ -6,9 +6,9 @@ ghost use Rattle.readback.specs.Readings.{function_steps, read_steps, joint, joi
 
 use crate::refusal::ReadRefusal;
 use crate::step::{count_steps, write_steps};
-use infos::info::read_info;
-use layout::address::Rva;
+use infos::reading::read_info;
 use plan::text::{Counts, StepRecord};
+use tables::area::InfoArea;
 use tables::entry::Entry;
 use tables::module::Module;
 
@@ -20,76 +20,71 @@ pub struct Lengths {
 }
 
 // How many steps an entry's function has.
-fn check_function(area: &[u8], start: Rva, entry: Entry) -> Result<usize, ReadRefusal>
-    ensures value { told result ≡ counted_in (function_steps area.now start.0 entry) }
+fn check_function(area: InfoArea<'_>, entry: Entry) -> Result<usize, ReadRefusal>
+    ensures value { told result ≡ counted_in (function_steps area.entry.bytes.now area.entry.start.0 entry) }
     ensures bound { IfOk result (λ n. n ≤ 255) }
 {
-    let info = read_info(area, start, entry.info)?;
+    let info = read_info(area, entry.info)?;
     if info.flags != 0 {
         return Err(ReadRefusal::Flags);
     }
-    count_steps(info)
+    count_steps(&info)
 }
 
 // How many steps the functions of all entries have.
-fn check_functions(area: &[u8], start: Rva, entries: &[Entry]) -> Result<usize, ReadRefusal>
+fn check_functions(area: InfoArea<'_>, entries: &[Entry]) -> Result<usize, ReadRefusal>
     requires { length entries.now ≤ 65536 }
-    ensures { told result ≡ joint_count (read_steps area.now start.0 entries.now) }
+    ensures { told result ≡ joint_count (read_steps area.entry.bytes.now area.entry.start.0 entries.now) }
 {
     let mut steps = 0;
-    let mut k = 0;
-    while k < entries.len() {
-        steps += check_function(area, start, entries[k])?;
-        k += 1;
+    for entry in entries {
+        steps += check_function(area, *entry)?;
     }
     Ok(steps)
 }
 
 // Writes the steps of an entry's function from `at` on, and answers how many there are.
 fn write_function(
-    area: &[u8],
-    start: Rva,
+    area: InfoArea<'_>,
     entry: Entry,
     records: &mut [StepRecord],
     at: usize,
 ) -> usize
-    requires { (is_ok (function_steps area.now start.0 entry) ≡ true) × (at + length (found (function_steps area.now start.0 entry)) ≤ length records.old) }
-    ensures after { records.new ≡ take at records.old ++ (found (function_steps area.now start.0 entry) ++ drop (at + length (found (function_steps area.now start.0 entry))) records.old) }
-    ensures count { result ≡ length (found (function_steps area.now start.0 entry)) }
+    requires { (is_ok (function_steps area.bytes.now area.start.0 entry) ≡ true) × (at + length (found (function_steps area.bytes.now area.start.0 entry)) ≤ length records.old) }
+    ensures after { records.new ≡ take at records.old ++ (found (function_steps area.entry.bytes.now area.entry.start.0 entry) ++ drop (at + length (found (function_steps area.entry.bytes.now area.entry.start.0 entry))) records.old) }
+    ensures count { result ≡ length (found (function_steps area.entry.bytes.now area.entry.start.0 entry)) }
     ensures bound { result ≤ 255 }
 {
-    let Ok(info) = read_info(area, start, entry.info) else {
+    let Ok(info) = read_info(area, entry.info) else {
         return 0;
     };
-    let Ok(n) = count_steps(info) else {
+    let Ok(n) = count_steps(&info) else {
         return 0;
     };
-    write_steps(info, records, at + n);
+    write_steps(&info, records, at + n);
     n
 }
 
 // Writes the counts and the steps of all functions.
 fn write_functions(
-    area: &[u8],
-    start: Rva,
+    area: InfoArea<'_>,
     entries: &[Entry],
     functions: &mut [Counts],
     steps: &mut [StepRecord],
 )
-    requires { (is_ok (read_steps area.now start.0 entries.now) ≡ true) × ((length entries.now ≤ length functions.old) × (length (joint (found (read_steps area.now start.0 entries.now))) ≤ length steps.old)) }
-    ensures functions { functions.new ≡ map counts_of (found (read_steps area.now start.0 entries.now)) ++ drop (length entries.now) functions.old }
-    ensures steps { steps.new ≡ joint (found (read_steps area.now start.0 entries.now)) ++ drop (length (joint (found (read_steps area.now start.0 entries.now)))) steps.old }
+    requires { (is_ok (read_steps area.bytes.now area.start.0 entries.now) ≡ true) × ((length entries.now ≤ length functions.old) × (length (joint (found (read_steps area.bytes.now area.start.0 entries.now))) ≤ length steps.old)) }
+    ensures functions { functions.new ≡ map counts_of (found (read_steps area.entry.bytes.now area.entry.start.0 entries.now)) ++ drop (length entries.now) functions.old }
+    ensures steps { steps.new ≡ joint (found (read_steps area.entry.bytes.now area.entry.start.0 entries.now)) ++ drop (length (joint (found (read_steps area.entry.bytes.now area.entry.start.0 entries.now)))) steps.old }
 {
     let mut at = 0;
-    let mut k = 0;
-    while k < entries.len() {
-        let n = write_function(area, start, entries[k], steps, at);
+    // After `iter_mut().zip(..)` a proof knows nothing of the counts.
+    for (k, entry) in entries.iter().enumerate() {
+        let n = write_function(area, *entry, steps, at);
         functions[k] = Counts {
             steps: n as u16,
             operations: 0,
         };
         at += n;
-        k += 1;
     }
 }
 
@@ -106,13 +101,12 @@ pub fn read_back(
     ensures compiled { CompiledBack (module_view «module».now) functions.old steps.old result functions.new steps.new }
 {
     module.check()?;
-    let count = check_functions(module.area, module.area_start, module.entries)?;
+    let count = check_functions(module.area, module.entries)?;
     if module.entries.len() > functions.len() || count > steps.len() {
         return Err(ReadRefusal::TooFewRecords);
     }
     write_functions(
         module.area,
-        module.area_start,
         module.entries,
         functions,
         steps,

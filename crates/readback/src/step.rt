@@ -5,14 +5,14 @@ ghost use Rattle.readback.specs.Refusals.{told};
 ghost use Rattle.readback.specs.Readings.{step_of_code, codes_in, steps_in, counted_in, found};
 
 use crate::refusal::ReadRefusal;
-use infos::code::{Code, Operation, decode};
+use infos::code::{Code, Operation};
 use infos::info::Info;
 use plan::text::StepRecord;
 
-// The step that a code stands for, in an info with this frame register and offset; a save of an XMM register is none.
-fn step_of(frame_register: u8, frame_offset: u8, code: Code) -> Result<StepRecord, ReadRefusal>
+// The step that a code of an info stands for; a save of an XMM register is none.
+fn step_of(info: &Info<'_>, code: Code) -> Result<StepRecord, ReadRefusal>
     requires { code.slot < 2 ^ 16 }
-    ensures { told result ≡ step_of_code frame_register frame_offset code }
+    ensures { told result ≡ step_of_code info.now.frame_register info.now.frame_offset code }
 {
     match code.operation {
         Operation::Push(register) => Ok(StepRecord {
@@ -27,59 +27,46 @@ fn step_of(frame_register: u8, frame_offset: u8, code: Code) -> Result<StepRecor
         }),
         Operation::SetFrame => Ok(StepRecord {
             kind: 2,
-            register: frame_register,
-            number: u32::from(frame_offset),
+            register: info.frame_register,
+            number: u32::from(info.frame_offset),
         }),
         Operation::Save { register, offset } => Ok(StepRecord {
             kind: 3,
             register,
             number: offset,
         }),
-        Operation::SaveXmm {
-            register: _,
-            offset: _,
-        } => Err(ReadRefusal::SavesXmm(code.slot as u16)),
+        Operation::SaveXmm { .. } => Err(ReadRefusal::SavesXmm(code.slot as u16)),
     }
 }
 
 // How many steps an info whose codes are good has: each code is one.
-pub(crate) fn count_steps(info: Info<'_>) -> Result<usize, ReadRefusal>
-    requires { (length info.slots.now ≤ 510) × (is_ok (codes_in (viewed info)) ≡ true) }
-    ensures value { told result ≡ counted_in (steps_in (viewed info.entry)) }
+pub(crate) fn count_steps(info: &Info<'_>) -> Result<usize, ReadRefusal>
+    requires { is_ok (codes_in (viewed info.now)) ≡ true }
+    ensures value { told result ≡ counted_in (steps_in (viewed info.now)) }
     ensures bound { IfOk result (λ n. n ≤ 255) }
 {
-    let slots = info.slots;
-    let mut slot = 0;
     let mut n = 0;
-    while slot < slots.len() / 2 {
-        let Ok((code, used)) = decode(slots, slot) else {
-            return Ok(n);
-        };
-        step_of(info.frame_register, info.frame_offset, code)?;
-        slot += used;
+    for code in info.codes() {
+        step_of(info, code?)?;
         n += 1;
     }
     Ok(n)
 }
 
 // Writes the steps of an info that has some, the last code's first, over the records that end at `end`.
-pub(crate) fn write_steps(info: Info<'_>, records: &mut [StepRecord], end: usize)
-    requires readable { (length info.slots.now ≤ 510) × (is_ok (steps_in (viewed info)) ≡ true) }
-    requires room { (length (found (steps_in (viewed info))) ≤ end) × (end ≤ length records.old) }
-    ensures { records.new ≡ take (end - length (found (steps_in (viewed info.entry)))) records.old ++ (found (steps_in (viewed info.entry)) ++ drop end records.old) }
+pub(crate) fn write_steps(info: &Info<'_>, records: &mut [StepRecord], end: usize)
+    requires readable { is_ok (steps_in (viewed info.now)) ≡ true }
+    requires room { (length (found (steps_in (viewed info.now))) ≤ end) × (end ≤ length records.old) }
+    ensures { records.new ≡ take (end - length (found (steps_in (viewed info.now)))) records.old ++ (found (steps_in (viewed info.now)) ++ drop end records.old) }
 {
-    let slots = info.slots;
-    let mut slot = 0;
-    let mut at = end;
-    while slot < slots.len() / 2 {
-        let Ok((code, used)) = decode(slots, slot) else {
+    // After `iter_mut().rev().zip(..)` a proof knows nothing of the records.
+    for (at, code) in (0..end).rev().zip(info.codes()) {
+        let Ok(code) = code else {
             return;
         };
-        let Ok(step) = step_of(info.frame_register, info.frame_offset, code) else {
+        let Ok(step) = step_of(info, code) else {
             return;
         };
-        at -= 1;
         records[at] = step;
-        slot += used;
     }
 }

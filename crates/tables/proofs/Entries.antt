@@ -1,35 +1,78 @@
 -- Entries in order: the steps of a check, and what the search makes of them.
-use Rattle.std.proofs.Common.{◌≡◌, ℕ, ◌+◌, ◌-◌, ◌*◌, ◌<◌, ◌≤◌, Bool, true, false, cond, ◌&&◌, ltb, leb, List, [], ◌∷◌, length, get_or, drop, Some, None, Option, refl, ap, ◌∙◌, arith}
-use Rattle.std.proofs.lemmas.List.FromFn.{length-map-range_with_len, get_or-map-range_with_len}
-use Rattle.std.proofs.lemmas.List.{at_drop_more}
+use Rattle.std.proofs.Common.{◌≡◌, ℕ, zero, suc, ◌+◌, ◌-◌, ◌*◌, ◌/◌, ◌<◌, ◌≤◌, Bool, true, false, cond, ◌&&◌, ltb, leb, List, [], ◌∷◌, map, length, get_or, take, drop, Some, None, Option, IfSome, MatchOption, IsSomeAnd, refl, sym, ap, ◌∙◌, arith, add-zero}
+use Rattle.std.proofs.lemmas.List.{get_or_default, length-drop, drop-drop}
 use Rattle.std.proofs.lemmas.Bool.{and_parts, and_from, and_left, leb-true, ltb-true, le-leb, lt-ltb}
+use Rattle.std.specs.List.{range_with_len}
+use Rattle.std.specs.Iterator.{AlwaysYields, YieldsFirst}
+use Rattle.std.proofs.lemmas.Iterator.Consumers.{YieldsList-from_first}
 use Rattle.records.specs.Spans.{holds, past, ascending, onward, found}
-use Rattle.tables.specs.Entries.{entry_at, entries_of, entry_first, entry_last, entry_good, entries_good, entry_holding}
+use Rattle.layout.specs.Words.{le_value}
+use Rattle.tables.specs.Entries.{rva, entry_at, entries_of, entry_first, entry_last, entry_good, entries_good, entry_holding}
+use Rattle.tables.specs.Tables.{entries_left}
 use Rattle.tables.specs.declared.entry.Entry.{Entry}
+use Rattle.tables.specs.declared.table.TableEntries.{TableEntries}
 
--- the steps of a check
-module _ (size floor : ℕ) (es : List Entry) (k : ℕ) (d : Entry) (h : k < length es) where
-  pub good_stop : entry_good size floor (get_or es k d) ≡ false → entries_good size floor (drop k es) ≡ false
-  good_stop e = at_drop_more (entries_good size floor) es k d h ∙ and_left _ _ e
+-- an iterator that gives a list: one more of its items, and its end
+module _ {S X : Type 0} (steps : S → Option X → S → Type 0) (s t : S) where
+  one_more : (x : X) (all : List X) → AlwaysYields steps (λ e. e) s all → steps s (Some x) t → (rest : List X) × (all ≡ x ∷ rest) × AlwaysYields steps (λ e. e) t rest
+  one_more x [] a h = absurd (a x t h)
+  one_more x (y ∷ ys) a h = let p = a.1 x t h in (ys, ap (λ z. z ∷ ys) (sym p.0), p.1)
 
-  pub good_next : entry_good size floor (get_or es k d) ≡ true → entries_good size floor (drop k es) ≡ entries_good size (get_or es k d).end.0 (drop (k + 1) es)
-  good_next e = at_drop_more (entries_good size floor) es k d h ∙ ap (λ b. b && entries_good size (get_or es k d).end.0 (drop (k + 1) es)) e
+  no_more : (all : List X) → AlwaysYields steps (λ e. e) s all → steps s None t → all ≡ []
+  no_more [] a h = refl
+  no_more (y ∷ ys) a h = absurd (a.0 t h)
 
--- the same over a table's bytes
-module _ (bs : List ℕ) (n k : ℕ) (h : k < n) where
-  read_at : (d : Entry) → get_or (entries_of bs n) k d ≡ entry_at bs (12 * k)
-  read_at d = get_or-map-range_with_len (λ j. entry_at bs (12 * j)) 0 n k k d h (omega arith)
+-- what is left of the entries that an iterator gives decides whether all are good
+abbrev pub Undecided : {S : Type 0} → (S → Option Entry → S → Type 0) → S → S → ℕ → ℕ → Type 0
+Undecided steps from s size floor =
+    (all : List Entry) → AlwaysYields steps (λ e. e) from all → (rest : List Entry) × AlwaysYields steps (λ e. e) s rest × (entries_good size 0 all ≡ entries_good size floor rest)
 
-  inside : k < length (entries_of bs n)
-  inside = omega (arith, length-map-range_with_len (λ j. entry_at bs (12 * j)) 0 n)
+module _ {S : Type 0} (steps : S → Option Entry → S → Type 0) (from s t : S) (size floor : ℕ) (u : Undecided steps from s size floor) where
+  pub good_next : (e : Entry) → steps s (Some e) t → entry_good size floor e ≡ true → Undecided steps from t size e.end.0
+  good_next e h good all a =
+      let p = u all a in
+      let q = one_more steps s t e p.0 p.1 h in
+      (q.0, q.2, p.2 ∙ ap (entries_good size floor) q.1 ∙ ap (λ b. b && entries_good size e.end.0 q.0) good)
 
-  pub table_stop : (size floor : ℕ) → entry_good size floor (entry_at bs (12 * k)) ≡ false → entries_good size floor (drop k (entries_of bs n)) ≡ false
-  table_stop size floor e = good_stop size floor (entries_of bs n) k (entry_at bs 0) inside (ap (entry_good size floor) (read_at (entry_at bs 0)) ∙ e)
+  pub good_stop : (e : Entry) → steps s (Some e) t → entry_good size floor e ≡ false → (all : List Entry) → AlwaysYields steps (λ e. e) from all → false ≡ entries_good size 0 all
+  good_stop e h bad all a =
+      let p = u all a in
+      let q = one_more steps s t e p.0 p.1 h in
+      sym (p.2 ∙ ap (entries_good size floor) q.1 ∙ and_left _ _ bad)
 
-  pub table-next : (size floor : ℕ) → entry_good size floor (entry_at bs (12 * k)) ≡ true → entries_good size floor (drop k (entries_of bs n)) ≡ entries_good size (entry_at bs (12 * k)).end.0 (drop (k + 1) (entries_of bs n))
-  table-next size floor e =
-      good_next size floor (entries_of bs n) k (entry_at bs 0) inside (ap (entry_good size floor) (read_at (entry_at bs 0)) ∙ e)
-      ∙ ap (λ x. entries_good size x.end.0 (drop (k + 1) (entries_of bs n))) (read_at (entry_at bs 0))
+  pub good_end : steps s None t → (all : List Entry) → AlwaysYields steps (λ e. e) from all → true ≡ entries_good size 0 all
+  good_end h all a =
+      let p = u all a in
+      sym (p.2 ∙ ap (entries_good size floor) (no_more steps s t p.0 p.1 h))
+
+-- the entries past the first are those of the bytes past it
+past_first : (bs : List ℕ) (k m : ℕ) → drop (12 * (k + 1) + m) bs ≡ drop (12 * k + m) (drop 12 bs)
+past_first bs k m = let e : 12 * (k + 1) + m ≡ 12 + (12 * k + m) = omega arith in ap (λ j. drop j bs) e ∙ sym (drop-drop (12 * k + m) 12 bs)
+
+next_entry : (bs : List ℕ) (k : ℕ) → entry_at bs (12 * (k + 1)) ≡ entry_at (drop 12 bs) (12 * k)
+next_entry bs k =
+    let words : List ℕ → List ℕ → List ℕ → Entry = λ a b c. record { begin = rva (le_value (take 4 a)); end = rva (le_value (take 4 b)); info = rva (le_value (take 4 c)) } in
+    let first : drop (12 * (k + 1)) bs ≡ drop (12 * k) (drop 12 bs) = simp add-zero at (past_first bs k 0) in
+    ap (λ a. words a (drop (12 * (k + 1) + 4) bs) (drop (12 * (k + 1) + 8) bs)) first
+    ∙ ap (λ b. words (drop (12 * k) (drop 12 bs)) b (drop (12 * (k + 1) + 8) bs)) (past_first bs k 4)
+    ∙ ap (words (drop (12 * k) (drop 12 bs)) (drop (12 * k + 4) (drop 12 bs))) (past_first bs k 8)
+
+later_entries : (bs : List ℕ) (k n : ℕ) → map (λ i. entry_at bs (12 * i)) (range_with_len (k + 1) n) ≡ map (λ i. entry_at (drop 12 bs) (12 * i)) (range_with_len k n)
+later_entries bs k zero = refl
+later_entries bs k (suc n) = rw (next_entry bs k, later_entries bs (k + 1) n) refl
+
+-- a table's first entry, and those of the bytes past it
+pub entries-next : (bs : List ℕ) → 12 ≤ length bs → entries_of bs (length bs / 12) ≡ entry_at bs 0 ∷ entries_of (drop 12 bs) (length (drop 12 bs) / 12)
+entries-next bs h =
+    let n : length bs / 12 ≡ suc (length (drop 12 bs) / 12) = omega (arith, length-drop 12 bs) in
+    rw n (ap (λ es. entry_at bs 0 ∷ es) (later_entries bs 0 (length (drop 12 bs) / 12)))
+
+pub entries-none : (bs : List ℕ) → length bs < 12 → entries_of bs (length bs / 12) ≡ []
+entries-none bs h = let z : length bs / 12 ≡ 0 = omega arith in rw z refl
+
+-- what the bytes of a table give
+pub table_gives : (bs : List ℕ) (t : TableEntries) → t.bytes.now ≡ bs → AlwaysYields (YieldsFirst entries_left) (λ e. e) t (entries_of bs (length bs / 12))
+table_gives bs t e = (YieldsList-from_first (λ e. e) entries_left _ (ap (λ b. entries_of b (length b / 12)) e)).runs
 
 -- good entries lie past their floor
 good_past : (size floor m : ℕ) (es : List Entry) → m < floor → entries_good size floor es ≡ true → past entry_first m es ≡ true
@@ -67,3 +110,10 @@ pub holding_found : (at : ℕ) (es : List Entry) (d : Entry) → entry_holding a
 holding_found at [] d = refl
 holding_found at (e ∷ es) d =
     ap (cond (holds entry_first entry_last at e) (Some e)) (holding_found at es d) ∙ first_or e d es (holds entry_first entry_last at e) (found entry_first entry_last at es)
+
+-- what a closure makes of an index that was found
+pub mapped : (es : List Entry) (d : Entry) (P : ℕ → Entry → Type 0) (Q : ℕ → Type 0) (o : Option ℕ) (r : Option Entry) → MatchOption o (r ≡ None) (λ i. IsSomeAnd r (P i)) → IfSome o (λ i. (i < length es) × Q i) →
+    ((i : ℕ) (e : Entry) → P i e → e ≡ get_or es i e) → r ≡ entry_of es d o
+mapped es d P Q None r m h f = m
+mapped es d P Q (Some i) (Some e) m h f = ap Some (f i e m ∙ get_or_default es i e d h.0)
+mapped es d P Q (Some i) None m h f = absurd m

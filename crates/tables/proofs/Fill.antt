@@ -1,16 +1,30 @@
--- A loop that writes one record after another, and leaves the rest.
-use Rattle.std.proofs.Common.{◌≡◌, ℕ, ◌+◌, ◌<◌, List, [], ◌∷◌, ◌++◌, map, length, get_or, drop, set, arith}
-use Rattle.std.specs.List.{range_with_len}
-use Rattle.std.proofs.lemmas.List.{drop_more, set_at, append_assoc}
-use Rattle.std.proofs.lemmas.List.FromFn.{map-range_with_len_more, length-map-range_with_len}
+-- A loop that writes one item after another over the first records, and leaves the rest.
+use Rattle.std.proofs.Common.{◌≡◌, ℕ, ◌+◌, ◌<◌, ◌≤◌, List, [], ◌∷◌, ◌++◌, length, get_or, take, drop, set, sym, ap, ◌∙◌, arith}
+use Rattle.std.proofs.lemmas.List.{drop_more, take_more, set_at, append_assoc, length-drop, length-take-le}
 
 -- one more element after p, over the rest of es
-pub put_next : {X : Type 0} (p es : List X) (n : ℕ) (x : X) → length p ≡ n → n < length es →
+put_next : {X : Type 0} (p es : List X) (n : ℕ) (x : X) → length p ≡ n → n < length es →
     set (p ++ drop n es) n x ≡ (p ++ x ∷ []) ++ drop (n + 1) es
 put_next p es n x l h = rw (drop_more es n x h, append_assoc) (set_at p (get_or es n x) (drop (n + 1) es) x n l)
 
--- f k at the place k
-pub front_more : {X : Type 0} (f : ℕ → X) (es : List X) (k : ℕ) → k < length es →
-    set (map f (range_with_len 0 k) ++ drop k es) k (f k) ≡ map f (range_with_len 0 (k + 1)) ++ drop (k + 1) es
-front_more f es k h =
-    rw (map-range_with_len_more f 0 k k (omega arith)) (put_next (map f (range_with_len 0 k)) es k (f k) (length-map-range_with_len f 0 k) h)
+-- the items that are left after some begin with x
+module _ {X : Type 0} (all : List X) (k : ℕ) (x : X) (rest : List X) (left : drop k all ≡ x ∷ rest) where
+  pub below : k < length all
+  below = omega (arith, ap length left, length-drop k all)
+
+  split : get_or all k x ∷ drop (k + 1) all ≡ x ∷ rest
+  split = sym (drop_more all k x below) ∙ left
+
+  pub left_next : drop (k + 1) all ≡ rest
+  left_next = let e = split in cc
+
+  here : get_or all k x ≡ x
+  here = let e = split in cc
+
+  -- x goes over the record with its index
+  pub put_from : (records : List X) → length all ≤ length records → set (take k all ++ drop k records) k x ≡ take (k + 1) all ++ drop (k + 1) records
+  put_from records h =
+      let b = below in
+      put_next (take k all) records k x (length-take-le k all (omega arith)) (omega arith)
+      ∙ ap (λ y. (take k all ++ y ∷ []) ++ drop (k + 1) records) (sym here)
+      ∙ ap (λ p. p ++ drop (k + 1) records) (sym (take_more all k x b))

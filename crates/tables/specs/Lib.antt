@@ -1,3 +1,4 @@
 pub mod Entries
 pub mod Modules
 pub mod Refusals
+pub mod Tables

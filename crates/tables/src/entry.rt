@@ -1,13 +1,14 @@
 // Entries of a function table.
-ghost use Rattle.std.specs.Prelude.{◌≡◌, ℕ, ◌+◌, ◌*◌, ◌≤◌, length};
-ghost use Rattle.tables.specs.Entries.{entry_at, entry_first, entry_last, entry_good};
+ghost use Rattle.std.specs.Prelude.{◌≡◌, ℕ, ◌+◌, ◌*◌, ◌≤◌, List, length};
+ghost use Rattle.std.specs.Iterator.{AlwaysYields, IsFinite};
+ghost use Rattle.tables.specs.Entries.{entry_at, entry_first, entry_last, entry_good, entries_good};
 
 use layout::address::Rva;
-use layout::word::u32_at;
+use layout::word::le_at;
 use records::span::Span;
 
 // A function's code, from `begin` up to `end`, which is one past it, and its unwind info.
-#[derive(Clone, Copy)]
+#[derive(Clone, Copy, PartialEq, Eq, Debug)]
 pub struct Entry {
     pub begin: Rva,
     pub end: Rva,
@@ -36,15 +37,31 @@ pub fn entry_in(bytes: &[u8], at: usize) -> Entry
     ensures { result ≡ entry_at bytes.now at }
 {
     Entry {
-        begin: Rva(u32_at(bytes, at)),
-        end: Rva(u32_at(bytes, at + 4)),
-        info: Rva(u32_at(bytes, at + 8)),
+        begin: Rva(le_at(bytes, at)),
+        end: Rva(le_at(bytes, at + 4)),
+        info: Rva(le_at(bytes, at + 8)),
     }
 }
 
 // Whether the entry holds something, starts at `floor` or above, and ends within `size`.
-pub(crate) fn is_good(entry: Entry, floor: u32, size: u64) -> bool
+fn is_good(entry: Entry, floor: u32, size: u64) -> bool
     ensures { result ≡ entry_good size floor entry }
 {
     entry.begin.0 < entry.end.0 && floor <= entry.begin.0 && u64::from(entry.end.0) <= size
+}
+
+// Whether the entries are in ascending order without overlap inside a module of this size.
+pub(crate) fn are_good<I: Iterator<Item = Entry> + Drop>(entries: I, size: u64) -> bool
+    requires can { I.can_next entries }
+    requires ends { IsFinite (I.remaining entries) }
+    ensures { (all : List Entry) → AlwaysYields I.next_gives (λ e. e) entries all → result ≡ entries_good size 0 all }
+{
+    let mut floor = 0;
+    for entry in entries {
+        if !is_good(entry, floor, size) {
+            return false;
+        }
+        floor = entry.end.0;
+    }
+    true
 }

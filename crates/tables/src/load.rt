@@ -1,53 +1,41 @@
 // Loading a table: its bytes into the caller's entry records.
-ghost use Rattle.std.specs.Prelude.{◌≡◌, ℕ, ◌*◌, ◌≤◌, ◌++◌, length, drop};
+ghost use Rattle.std.specs.Prelude.{◌≡◌, ℕ, ◌/◌, ◌≤◌, ◌++◌, length, drop};
 ghost use Rattle.std.specs.Result.{result_map_both};
-ghost use Rattle.tables.specs.Entries.{entries_of, entries_good};
+ghost use Rattle.tables.specs.Entries.{entries_of};
 ghost use Rattle.tables.specs.Modules.{loading, loaded};
 ghost use Rattle.tables.specs.Refusals.{table_number};
 
-use crate::entry::{Entry, entry_in, is_good};
-use crate::module::{MAX_ENTRIES, check_size};
+use crate::entry::{Entry, are_good};
+use crate::module::{Extent, MAX_ENTRIES};
 use crate::refusal::TableRefusal;
-use layout::address::Address;
-
-// Whether the first `n` entries of a table are good in a module of this size.
-fn are_good(bytes: &[u8], n: usize, size: u64) -> bool
-    requires { 12 * n ≤ length bytes.now }
-    ensures { result ≡ entries_good size 0 (entries_of bytes.now n) }
-{
-    let mut floor = 0;
-    for k in 0..n {
-        let entry = entry_in(bytes, 12 * k);
-        if !is_good(entry, floor, size) {
-            return false;
-        }
-        floor = entry.end.0;
-    }
-    true
-}
+use crate::table::TableEntries;
 
 // How many entries the table has, if it may be loaded.
-fn check_table(bytes: &[u8], base: Address, size: u64, room: usize) -> Result<usize, TableRefusal>
-    ensures { result_map_both (λ n. n) table_number result ≡ loading bytes.now base.0 size room }
+fn check_table(bytes: &[u8], extent: Extent, room: usize) -> Result<usize, TableRefusal>
+    ensures { result_map_both (λ n. n) table_number result ≡ loading bytes.now extent.base.0 extent.size room }
 {
     let n = bytes.len() / 12;
-    if bytes.len() % 12 != 0 || n > MAX_ENTRIES || !are_good(bytes, n, size) {
+    if bytes.len() % 12 != 0
+        || n > MAX_ENTRIES
+        || !are_good(TableEntries::new(bytes), extent.size)
+    {
         return Err(TableRefusal::BadTable);
     }
-    check_size(base, size)?;
+    extent.check()?;
     if n > room {
         return Err(TableRefusal::TooFewRecords);
     }
     Ok(n)
 }
 
-// Writes the first `n` entries of a table over the first records.
-fn write_entries(bytes: &[u8], n: usize, records: &mut [Entry])
-    requires { (12 * n ≤ length bytes.now) × (n ≤ length records.old) }
-    ensures { records.new ≡ entries_of bytes.now n ++ drop n records.old }
+// Writes the entries of a table over the first records.
+fn write_entries(bytes: &[u8], records: &mut [Entry])
+    requires { length bytes.now / 12 ≤ length records.old }
+    ensures { records.new ≡ entries_of bytes.now (length bytes.now / 12) ++ drop (length bytes.now / 12) records.old }
 {
-    for k in 0..n {
-        records[k] = entry_in(bytes, 12 * k);
+    // After `iter_mut().zip(..)` a proof knows nothing of the records.
+    for (k, entry) in TableEntries::new(bytes).enumerate() {
+        records[k] = entry;
     }
 }
 
@@ -55,14 +43,13 @@ fn write_entries(bytes: &[u8], n: usize, records: &mut [Entry])
 // Refused with 35, 36 or 22, in that order, it changes no record; the records past the entries stay.
 pub fn load_table(
     bytes: &[u8],
-    base: Address,
-    size: u64,
+    extent: Extent,
     records: &mut [Entry],
 ) -> Result<usize, TableRefusal>
-    ensures answer { result_map_both (λ n. n) table_number result ≡ loading bytes.now base.0 size (length records.old) }
+    ensures answer { result_map_both (λ n. n) table_number result ≡ loading bytes.now extent.base.0 extent.size (length records.old) }
     ensures after { records.new ≡ loaded bytes.now records.old result }
 {
-    let n = check_table(bytes, base, size, records.len())?;
-    write_entries(bytes, n, records);
+    let n = check_table(bytes, extent, records.len())?;
+    write_entries(bytes, records);
     Ok(n)
 }

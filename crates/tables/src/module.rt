@@ -2,11 +2,12 @@
 ghost use Rattle.std.specs.Prelude.{◌≡◌, ℕ, ◌≤◌, true, IfSome};
 ghost use Rattle.std.specs.Result.{result_map_both};
 ghost use Rattle.records.specs.Spans.{ascending};
-ghost use Rattle.tables.specs.Entries.{entries_good, entry_first, entry_last, entry_holding};
+ghost use Rattle.tables.specs.Entries.{entry_first, entry_last, entry_holding};
 ghost use Rattle.tables.specs.Modules.{size_verdict, module_verdict};
 ghost use Rattle.tables.specs.Refusals.{table_number};
 
-use crate::entry::{Entry, is_good};
+use crate::area::InfoArea;
+use crate::entry::{Entry, are_good};
 use crate::refusal::TableRefusal;
 use layout::address::{Address, Rva};
 use records::span::find;
@@ -14,49 +15,44 @@ use records::span::find;
 // A table has at most this many entries.
 pub const MAX_ENTRIES: usize = 65536;
 
-// A plain record that the caller fills. The info area's first byte lies at the RVA `area_start`.
-#[derive(Clone, Copy)]
-pub struct Module<'a> {
+// Where a module lies: its first address, and how many bytes it has.
+#[derive(Clone, Copy, PartialEq, Eq, Debug)]
+pub struct Extent {
     pub base: Address,
     pub size: u64,
-    pub entries: &'a [Entry],
-    pub area: &'a [u8],
-    pub area_start: Rva,
 }
 
-// Whether a module of this size fits at this base, else 36.
-pub fn check_size(base: Address, size: u64) -> Result<(), TableRefusal>
-    ensures { result_map_both (λ x. x) table_number result ≡ size_verdict base.0 size }
-{
-    if size == 0 || u64::MAX - base.0 < size - 1 {
-        return Err(TableRefusal::BadModule);
-    }
-    Ok(())
-}
-
-// Whether the entries are in ascending order without overlap inside a module of this size.
-fn are_sound(entries: &[Entry], size: u64) -> bool
-    ensures { result ≡ entries_good size 0 entries.now }
-{
-    let mut floor = 0;
-    for entry in entries {
-        if !is_good(*entry, floor, size) {
-            return false;
+impl Extent {
+    // Whether a module of this size fits at this base, else 36.
+    pub fn check(self) -> Result<(), TableRefusal>
+        ensures { result_map_both (λ x. x) table_number result ≡ size_verdict self.base.0 self.size }
+    {
+        if self.size == 0 || u64::MAX - self.base.0 < self.size - 1 {
+            return Err(TableRefusal::BadModule);
         }
-        floor = entry.end.0;
+        Ok(())
     }
-    true
+}
+
+// A plain record that the caller fills.
+#[derive(Clone, Copy)]
+pub struct Module<'a> {
+    pub extent: Extent,
+    pub entries: &'a [Entry],
+    pub area: InfoArea<'a>,
 }
 
 impl Module<'_> {
     // 35 where the entries are no table, and then 36 where the module does not fit at its base.
     pub fn check(&self) -> Result<(), TableRefusal>
-        ensures { result_map_both (λ x. x) table_number result ≡ module_verdict self.now.base.0 self.now.size self.now.entries.now }
+        ensures { result_map_both (λ x. x) table_number result ≡ module_verdict self.now.extent.base.0 self.now.extent.size self.now.entries.now }
     {
-        if self.entries.len() > MAX_ENTRIES || !are_sound(self.entries, self.size) {
+        if self.entries.len() > MAX_ENTRIES
+            || !are_good(self.entries.iter().copied(), self.extent.size)
+        {
             return Err(TableRefusal::BadTable);
         }
-        check_size(self.base, self.size)
+        self.extent.check()
     }
 
     // The entry that holds an RVA, where the entries are in order; in any other module, one that holds it or none.
@@ -64,9 +60,6 @@ impl Module<'_> {
         ensures finds { ascending entry_first entry_last self.now.entries.now ≡ true → result ≡ entry_holding rva.0 self.now.entries.now }
         ensures inside { IfSome result (λ e. (entry_first e ≤ rva.0) × (rva.0 ≤ entry_last e)) }
     {
-        match find(self.entries, rva) {
-            Some(i) => Some(self.entries[i]),
-            None => None,
-        }
+        find(self.entries, rva).map(|i| self.entries[i])
     }
 }

@@ -5,23 +5,19 @@ use layout::refusal::Numbered;
 
 #[derive(Clone, Copy, PartialEq, Eq, Debug)]
 pub enum TableRefusal {
-    // 35: not 12 bytes for each entry, over 65,536 entries, or an entry that is empty, out of order,
+    // Not 12 bytes for each entry, over 65,536 entries, or an entry that is empty, out of order,
     // overlapping or past the module's size.
-    BadTable,
-    // 36: the size is 0, or the module passes the last address.
-    BadModule,
-    // 22: fewer records than entries.
-    TooFewRecords,
+    BadTable = 35,
+    // The size is 0, or the module passes the last address.
+    BadModule = 36,
+    // Fewer records than entries.
+    TooFewRecords = 22,
 }
 
 impl Numbered for TableRefusal {
     ghost number = { table_number };
 
     fn number(&self) -> u16 {
-        match self {
-            TableRefusal::BadTable => 35,
-            TableRefusal::BadModule => 36,
-            TableRefusal::TooFewRecords => 22,
-        }
+        *self as u16
     }
 }

@@ -3,6 +3,7 @@ use infos::code::{Code, Operation};
 use infos::listing::list_codes;
 use layout::address::Rva;
 use layout::refusal::Numbered;
+use tables::area::InfoArea;
 
 // Push 5, push 3, allocate 56, set-frame 5 at 32, save 6 at 40, and a chained entry.
 const INFO: [u8; 28] = [
@@ -12,17 +13,21 @@ const INFO: [u8; 28] = [
 
 // Reads the info with one byte in place of another; no more codes than slots, or a number of the list.
 fn is_sound(at: usize, byte: u8) -> bool {
-    let mut area = INFO;
-    if at < area.len() {
-        area[at] = byte;
+    let mut bytes = INFO;
+    if let Some(changed) = bytes.get_mut(at) {
+        *changed = byte;
     }
+    let area = InfoArea {
+        bytes: &bytes,
+        start: Rva(0),
+    };
     let none = Code {
         slot: 0,
         offset: 0,
         operation: Operation::SetFrame,
     };
     let mut codes = [none; 255];
-    match list_codes(&area, Rva(0), Rva(0), &mut codes) {
+    match list_codes(area, Rva(0), &mut codes) {
         Ok(n) => n <= 6,
         Err(e) => 40 <= e.number() && e.number() <= 45,
     }

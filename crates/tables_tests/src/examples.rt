@@ -1,12 +1,14 @@
 // Tables loaded in place, entries found, and the info of a function with every kind of integer step.
 use infos::code::{Code, Operation};
-use infos::info::{Tail, read_info};
+use infos::info::Tail;
 use infos::listing::list_codes;
+use infos::reading::read_info;
 use layout::address::{Address, Rva};
 use std::test::Fail;
+use tables::area::InfoArea;
 use tables::entry::Entry;
 use tables::load::load_table;
-use tables::module::Module;
+use tables::module::{Extent, Module};
 use tables::refusal::TableRefusal;
 
 // Entries 0x1000 to 0x1010 and 0x1010 to 0x1020, and after a gap 0x1030 to 0x1031.
@@ -28,14 +30,22 @@ fn entry(begin: u32, end: u32, info: u32) -> Entry {
     }
 }
 
+// A module of this size at this base.
+fn extent(base: u64, size: u64) -> Extent {
+    Extent {
+        base: Address(base),
+        size,
+    }
+}
+
 #[test]
 fn a_table_fills_records_in_order_and_leaves_the_rest(rt: HostRuntime) -> Result<(), Fail> {
     let mut records = [entry(7, 8, 9); 4];
-    let n = load_table(&TABLE, Address(0), 0x1031, &mut records)?;
+    let n = load_table(&TABLE, extent(0, 0x1031), &mut records)?;
     assert_eq!(rt; n, 3);
-    assert_eq!(rt; records[1].begin.0, 0x1010);
-    assert_eq!(rt; records[2].end.0, 0x1031);
-    assert_eq!(rt; records[3].begin.0, 7);
+    assert_eq!(rt; records[1].begin, Rva(0x1010));
+    assert_eq!(rt; records[2].end, Rva(0x1031));
+    assert_eq!(rt; records[3], entry(7, 8, 9));
     Ok(())
 }
 
@@ -43,26 +53,23 @@ fn a_table_fills_records_in_order_and_leaves_the_rest(rt: HostRuntime) -> Result
 fn a_refused_table_changes_no_record(rt: HostRuntime) {
     let mut records = [entry(7, 8, 9); 2];
     assert_eq!(rt;
-        load_table(&TABLE, Address(0), 0x1030, &mut records),
+        load_table(&TABLE, extent(0, 0x1030), &mut records),
         Err(TableRefusal::BadTable)
     );
     assert_eq!(rt;
-        load_table(&TABLE, Address(u64::MAX), 0x1031, &mut records),
+        load_table(&TABLE, extent(u64::MAX, 0x1031), &mut records),
         Err(TableRefusal::BadModule)
     );
     assert_eq!(rt;
-        load_table(&TABLE, Address(0), 0x1031, &mut records),
+        load_table(&TABLE, extent(0, 0x1031), &mut records),
         Err(TableRefusal::TooFewRecords)
     );
-    assert_eq!(rt; records[0].begin.0, 7);
-    assert_eq!(rt; records[1].info.0, 9);
+    assert_eq!(rt; records[0], entry(7, 8, 9));
+    assert_eq!(rt; records[1], entry(7, 8, 9));
 }
 
 fn begin_at(module: &Module, rva: u32) -> u32 {
-    match module.entry_at(Rva(rva)) {
-        Some(found) => found.begin.0,
-        None => 0,
-    }
+    module.entry_at(Rva(rva)).map_or(0, |found| found.begin.0)
 }
 
 #[test]
@@ -73,11 +80,12 @@ fn an_entry_holds_its_first_byte_and_not_its_end(rt: HostRuntime) {
         entry(0x1030, 0x1031, 0),
     ];
     let module = Module {
-        base: Address(0x4000_0000),
-        size: 0x2000,
+        extent: extent(0x4000_0000, 0x2000),
         entries: &entries,
-        area: &INFO,
-        area_start: Rva(0x2000),
+        area: InfoArea {
+            bytes: &INFO,
+            start: Rva(0x2000),
+        },
     };
     assert_eq!(rt; module.check(), Ok(()));
     assert_eq!(rt; begin_at(&module, 0xfff), 0);
@@ -89,16 +97,6 @@ fn an_entry_holds_its_first_byte_and_not_its_end(rt: HostRuntime) {
     assert_eq!(rt; begin_at(&module, 0x1031), 0);
 }
 
-fn is_save(code: Code, register: u8, offset: u32) -> bool {
-    match code.operation {
-        Operation::Save {
-            register: r,
-            offset: o,
-        } => r == register && o == offset,
-        _ => false,
-    }
-}
-
 #[test]
 fn the_codes_of_an_info_with_their_slots(rt: HostRuntime) -> Result<(), Fail> {
     let none = Code {
@@ -107,9 +105,17 @@ fn the_codes_of_an_info_with_their_slots(rt: HostRuntime) -> Result<(), Fail> {
         operation: Operation::SetFrame,
     };
     let mut codes = [none; 6];
-    let n = list_codes(&INFO, Rva(0x2000), Rva(0x2000), &mut codes)?;
+    let area = InfoArea {
+        bytes: &INFO,
+        start: Rva(0x2000),
+    };
+    let n = list_codes(area, Rva(0x2000), &mut codes)?;
     assert_eq!(rt; n, 5);
-    assert!(rt; is_save(codes[0], 6, 40));
+    let save = Operation::Save {
+        register: 6,
+        offset: 40,
+    };
+    assert_eq!(rt; codes[0].operation, save);
     assert_eq!(rt; codes[0].offset, 16);
     assert_eq!(rt; codes[1].slot, 2);
     assert_eq!(rt; codes[4].slot, 5);
@@ -119,15 +125,19 @@ fn the_codes_of_an_info_with_their_slots(rt: HostRuntime) -> Result<(), Fail> {
 
 #[test]
 fn slots_and_handler_data_are_parts_of_the_area(rt: HostRuntime) -> Result<(), Fail> {
-    let area = [
+    let bytes = [
         0, 0, 0, 0, 0x09, 4, 1, 0, 0x04, 0x42, 0, 0, 0x50, 0x10, 0, 0, 0x2a,
     ];
-    let info = read_info(&area, Rva(0x1ffc), Rva(0x2000))?;
+    let area = InfoArea {
+        bytes: &bytes,
+        start: Rva(0x1ffc),
+    };
+    let info = read_info(area, Rva(0x2000))?;
     assert_eq!(rt; info.place, 8);
     assert_eq!(rt; info.slots, [0x04, 0x42].as_slice());
     match info.tail {
         Tail::Handler { rva, data } => {
-            assert_eq!(rt; rva.0, 0x1050);
+            assert_eq!(rt; rva, Rva(0x1050));
             assert_eq!(rt; data, [0x2a].as_slice());
             Ok(())
         }

@@ -1,10 +1,62 @@
-use Rattle.std.proofs.Common.{◌*◌, ◌<◌, length, arith}
-use Rattle.tables.specs.Entries.{entry_at}
-use Rattle.tables.proofs.Fill.{front_more}
+use Rattle.std.proofs.Common.{◌≡◌, ℕ, ◌+◌, ◌*◌, ◌/◌, ◌<◌, ◌++◌, List, length, take, drop, set, arith, inl, refl, ap, ◌∙◌, sym}
+use Rattle.std.specs.Iterator.Adapters.{enumerate_source, enumerate_count}
+use Rattle.std.proofs.lemmas.List.{length-drop, take_all}
+use Rattle.std.proofs.lemmas.List.FromFn.{length-map-range_with_len}
+use Rattle.tables.specs.Entries.{entry_at, entries_of}
+use Rattle.tables.specs.Tables.{entries_left}
+use Rattle.tables.proofs.Fill.{below, left_next, put_from}
 use Rattle.tables.proofs.load.write_entries.Goals as goal
+
+long : (bs : List ℕ) → length (entries_of bs (length bs / 12)) ≡ length bs / 12
+long bs = length-map-range_with_len (λ k. entry_at bs (12 * k)) 0 (length bs / 12)
+
+pub loop-k-init : goal.loop-k-init
+loop-k-init c =
+    let bs = c.args.bytes.now in
+    let same = c.into_iter-k-iterator.ensures.into_iter_gives in
+    let none : enumerate_count c.into_iter-k-iterator.result ≡ 0 = ap enumerate_count same ∙ c.enumerate-k-items.ensures.count in
+    let source = ap enumerate_source same ∙ c.enumerate-k-items.ensures.source in
+    let all : entries_left (enumerate_source c.into_iter-k-iterator.result) ≡ entries_of bs (length bs / 12) = ap entries_left source ∙ ap (λ b. entries_of b (length b / 12)) c.new.ensures in
+    rw (none, all)
+    record {
+      can = (tt, tt, inl (omega (arith, long bs)));
+      ends = tt;
+      within = omega arith;
+      left = refl;
+      written = refl;
+    }
+
+pub bounds-records-k : goal.bounds-records-k
+bounds-records-k c =
+    let bs = c.args.bytes.now in
+    let all = entries_of bs (length bs / 12) in
+    let s = c.in-Some.ensures.steps in
+    let b : enumerate_count c.loop-k.k-iterator < length all = below all _ _ _ (sym c.loop-k.invariant.left ∙ s.0) in
+    omega (arith, long bs, s.1)
 
 pub loop-k-preserved : goal.loop-k-preserved
 loop-k-preserved c =
-    let h : c.loop-k.k < length c.args.records.now = omega arith in
-    let step = front_more (λ k. entry_at c.args.bytes.now (12 * k)) c.args.records.now c.loop-k.k h in
-    simp (c.loop-k.invariant, c.entry_in.ensures) step
+    let bs = c.args.bytes.now in
+    let all = entries_of bs (length bs / 12) in
+    let k = enumerate_count c.loop-k.k-iterator in
+    let s = c.in-Some.ensures.steps in
+    let left = sym c.loop-k.invariant.left ∙ s.0 in
+    let b : k < length all = below all k _ _ left in
+    let rest : entries_left (enumerate_source c.next.new.self) ≡ drop (k + 1) all = sym (left_next all k _ _ left) in
+    rw (s.1, s.2, rest)
+    record {
+      can = (tt, tt, inl (omega (arith, long bs, length-drop (k + 1) all)));
+      ends = tt;
+      within = omega arith;
+      left = refl;
+      written = ap (λ r. set r k c.in-Some.entry) c.loop-k.invariant.written ∙ put_from all k _ _ left c.args.records.now (omega (arith, long bs));
+    }
+
+pub returns : goal.returns
+returns c =
+    let bs = c.args.bytes.now in
+    let all = entries_of bs (length bs / 12) in
+    let k = enumerate_count c.loop-k.k-iterator in
+    let e = ap length (sym c.loop-k.invariant.left ∙ c.in-None.ensures.steps.0.0) in
+    let end : k ≡ length bs / 12 = omega (arith, e, length-drop k all, long bs, c.loop-k.invariant.within) in
+    c.loop-k.invariant.written ∙ ap (λ n. take n all ++ drop n c.args.records.now) end ∙ ap (λ l. l ++ drop (length bs / 12) c.args.records.now) (take_all (length bs / 12) all (omega (arith, long bs)))

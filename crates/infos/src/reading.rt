@@ -1,0 +1,101 @@
+// Reading the unwind info at an RVA.
+ghost use Rattle.std.specs.Prelude.{◌≡◌, ℕ, ◌+◌, ◌*◌, ◌^◌, ◌≤◌, length};
+ghost use Rattle.infos.specs.Infos.{padded, tail_size, tail_in, tail_view, header_in, header_view, located, info_at, info_view};
+
+use crate::info::{Info, Tail};
+use crate::refusal::{InfoReason, InfoRefusal};
+use layout::address::Rva;
+use layout::word::le_at;
+use tables::area::InfoArea;
+use tables::entry::entry_in;
+
+// The slots are padded to an even count.
+fn padded_count(count: u8) -> usize
+    ensures { result ≡ padded count }
+{
+    let n = count as usize;
+    n + n % 2
+}
+
+// How many bytes the tail has at least.
+fn least_tail(flags: u8) -> usize
+    ensures { result ≡ tail_size flags }
+{
+    match flags {
+        0 => 0,
+        4 => 12,
+        _ => 4,
+    }
+}
+
+// The tail that `bytes` begin with.
+fn read_tail(flags: u8, bytes: &[u8]) -> Tail<'_>
+    requires { tail_size flags ≤ length bytes.now }
+    ensures { tail_view result ≡ tail_in flags bytes.now }
+{
+    match flags {
+        0 => Tail::None,
+        4 => Tail::Chained(entry_in(bytes, 0)),
+        _ => Tail::Handler {
+            rva: Rva(le_at(bytes, 0)),
+            data: &bytes[4..],
+        },
+    }
+}
+
+// The info that `bytes` begin with, which stand at `at` in the area; its codes are not looked at.
+fn read_header(bytes: &[u8], at: usize) -> Result<Info<'_>, InfoReason>
+    requires { (4 ≤ length bytes.now) × (at + 4 ≤ 2 ^ 33) }
+    ensures { header_view result ≡ header_in at bytes.now }
+{
+    let first = bytes[0];
+    let count = bytes[2];
+    let frame_register = bytes[3] % 16;
+    if first % 8 != 1 {
+        return Err(InfoReason::Version);
+    }
+    let flags = first / 8;
+    if flags > 4 {
+        return Err(InfoReason::Flags);
+    }
+    let end = 4 + 2 * padded_count(count);
+    if bytes.len() < end + least_tail(flags) {
+        return Err(InfoReason::Cut);
+    }
+    if frame_register == 4 {
+        return Err(InfoReason::BadCode);
+    }
+    Ok(Info {
+        flags,
+        prologue: bytes[1],
+        count,
+        frame_register,
+        frame_offset: bytes[3] / 16 * 16,
+        place: at + 4,
+        slots: &bytes[4..4 + 2 * count as usize],
+        tail: read_tail(flags, &bytes[end..]),
+    })
+}
+
+// The info at an RVA of an area; its codes are not looked at.
+fn locate(area: InfoArea<'_>, rva: Rva) -> Result<Info<'_>, InfoReason>
+    ensures { header_view result ≡ located area.entry.bytes.now area.entry.start.0 rva.0 }
+{
+    if rva.0 % 4 != 0 || rva.0 < area.start.0 {
+        return Err(InfoReason::Cut);
+    }
+    let at = (rva.0 - area.start.0) as usize;
+    if area.bytes.len() < at + 4 {
+        return Err(InfoReason::Cut);
+    }
+    read_header(&area.bytes[at..], at)
+}
+
+// The info at an RVA, read whole: header, tail and every code. Refused with 40 to 45 and the slot at work.
+pub fn read_info(area: InfoArea<'_>, rva: Rva) -> Result<Info<'_>, InfoRefusal>
+    ensures { info_view result ≡ info_at area.entry.bytes.now area.entry.start.0 rva.0 }
+{
+    let info = locate(area, rva)?;
+    info.codes().check()?;
+    Ok(info)
+}
