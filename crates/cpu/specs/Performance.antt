@@ -1,13 +1,14 @@
 -- What carrying an intent out leaves in the registers and in the stack area, whose first address is low.
-use Rattle.std.specs.Prelude.{ℕ, ◌+◌, ◌-◌, Bool, true, ◌&&◌, List, nat_le, slice_set}
+use Rattle.std.specs.Prelude.{ℕ, ◌+◌, ◌-◌, Bool, true, ◌&&◌, cond, List, length, Some, None, Option, nat_le, slice_set}
 use Rattle.layout.specs.Words.{le_at, with_word}
 use Rattle.layout.specs.declared.registers.Registers.{Registers}
 use Rattle.cpu.specs.declared.intent.Access.{Access}
 use Rattle.cpu.specs.declared.intent.Access.TheVariants as access
 use Rattle.cpu.specs.declared.intent.Change.{Change}
-use Rattle.cpu.specs.declared.intent.Change.TheVariants as change
 use Rattle.cpu.specs.declared.intent.Intent.{Intent}
-use Rattle.cpu.specs.declared.perform.OutsideStack.{OutsideStack}
+use Rattle.cpu.specs.declared.processor.OutsideStack.{OutsideStack}
+use Rattle.cpu.specs.Effects.{place}
+use Rattle.cpu.specs.Processors.{State}
 
 abbrev pub stack_number : OutsideStack → ℕ
 stack_number e = 62
@@ -20,11 +21,9 @@ settles low size rsp = nat_le low rsp && nat_le rsp (low + size)
 abbrev pub holds_word : ℕ → ℕ → ℕ → Bool
 holds_word low size at = nat_le low at && nat_le (at + 8) (low + size)
 
-abbrev pub accessible : Access → ℕ → ℕ → Bool
-accessible access.Nothing low size = true
-accessible (access.Store at v) low size = holds_word low size at
-accessible (access.Load at r) low size = holds_word low size at
-accessible (access.Return at) low size = holds_word low size at
+abbrev pub accessible : Option Access → ℕ → ℕ → Bool
+accessible None low size = true
+accessible (Some a) low size = holds_word low size (place a)
 
 abbrev pub permitted : Intent → ℕ → ℕ → Bool
 permitted it low size = accessible it.access low size && settles low size it.rsp
@@ -35,15 +34,15 @@ with_register regs r v = record { rip = regs.rip; integer = slice_set regs.integ
 abbrev pub with_rip : Registers → ℕ → Registers
 with_rip regs at = record { rip = record { 0 = at }; integer = regs.integer; xmm = regs.xmm }
 
-abbrev pub changed : Change → Registers → Registers
-changed change.Nothing regs = regs
-changed (change.Set r v) regs = with_register regs r v
+abbrev pub changed : Option Change → Registers → Registers
+changed None regs = regs
+changed (Some c) regs = with_register regs c.register c.value
 
-abbrev pub loaded : Access → ℕ → List ℕ → Registers → Registers
-loaded access.Nothing low stack regs = regs
-loaded (access.Store at v) low stack regs = regs
-loaded (access.Load at r) low stack regs = with_register regs r (le_at 8 stack (at - low))
-loaded (access.Return at) low stack regs = with_rip regs (le_at 8 stack (at - low))
+abbrev pub loaded : Option Access → ℕ → List ℕ → Registers → Registers
+loaded None low stack regs = regs
+loaded (Some (access.Store at v)) low stack regs = regs
+loaded (Some (access.Load at r)) low stack regs = with_register regs r (le_at 8 stack (at - low))
+loaded (Some (access.Return at)) low stack regs = with_rip regs (le_at 8 stack (at - low))
 
 abbrev pub loading : Intent → ℕ → List ℕ → Registers → Registers
 loading it low stack regs = loaded it.access low stack (with_rip regs it.rip)
@@ -51,11 +50,19 @@ loading it low stack regs = loaded it.access low stack (with_rip regs it.rip)
 abbrev pub registers_after : Intent → ℕ → Registers → List ℕ → Registers
 registers_after it low regs stack = with_register (loading it low stack (changed it.change regs)) 4 it.rsp
 
-abbrev pub stored : Access → ℕ → List ℕ → List ℕ
-stored access.Nothing low stack = stack
-stored (access.Store at v) low stack = with_word 8 stack (at - low) v
-stored (access.Load at r) low stack = stack
-stored (access.Return at) low stack = stack
+abbrev pub stored : Option Access → ℕ → List ℕ → List ℕ
+stored None low stack = stack
+stored (Some (access.Store at v)) low stack = with_word 8 stack (at - low) v
+stored (Some (access.Load at r)) low stack = stack
+stored (Some (access.Return at)) low stack = stack
 
 abbrev pub stack_after : Intent → ℕ → List ℕ → List ℕ
 stack_after it low stack = stored it.access low stack
+
+-- the word at an address of the area, if it lies there
+abbrev pub area_word : State → ℕ → Option ℕ
+area_word s at = cond (holds_word s.low (length s.stack) at) (Some (le_at 8 s.stack (at - s.low))) None
+
+-- the state after an intent that is not refused
+abbrev pub performed : Intent → State → State
+performed it s = record { registers = registers_after it s.low s.registers s.stack; low = s.low; stack = stack_after it s.low s.stack }

@@ -1,34 +1,86 @@
 // What an instruction is about to do, from the registers alone.
-ghost use Rattle.std.specs.Prelude.{◌≡◌, ℕ, ◌≤◌};
-ghost use Rattle.cpu.specs.Effects.{signed, moved, moved_back, intended, register_value};
+ghost use Rattle.std.specs.Prelude.{◌≡◌, ℕ, ◌≤◌, Some, None};
+ghost use Rattle.cpu.specs.Effects.{signed, moved, moved_back, intended, register_value, below, above, place};
 
 use layout::registers::{RSP, Registers};
 use x64::instruction::Instruction;
 
 // The word of the stack area that an instruction accesses.
-#[derive(Clone, Copy)]
+#[derive(Clone, Copy, PartialEq, Eq, Debug)]
 pub enum Access {
-    Nothing,
     Store { at: u64, value: u64 },
     Load { at: u64, register: u8 },
     // Its word becomes RIP.
     Return { at: u64 },
 }
 
+impl Access {
+    // The address of the word.
+    pub fn at(self) -> u64
+        ensures { result ≡ place self }
+    {
+        match self {
+            Access::Store { at, .. } | Access::Load { at, .. } | Access::Return { at } => at,
+        }
+    }
+}
+
 // A register that gets a value, besides RSP and what is loaded.
-#[derive(Clone, Copy)]
-pub enum Change {
-    Nothing,
-    Set { register: u8, value: u64 },
+#[derive(Clone, Copy, PartialEq, Eq, Debug)]
+pub struct Change {
+    pub register: u8,
+    pub value: u64,
 }
 
 // The access, the register changed, and RSP and RIP afterwards.
-#[derive(Clone, Copy)]
+#[derive(Clone, Copy, PartialEq, Eq, Debug)]
 pub struct Intent {
-    pub access: Access,
-    pub change: Change,
+    pub access: Option<Access>,
+    pub change: Option<Change>,
     pub rsp: u64,
     pub rip: u64,
+}
+
+impl Intent {
+    fn store(self, at: u64, value: u64) -> Intent
+        ensures { result ≡ record self { access = Some (Access.Store at value) } }
+    {
+        let access = Some(Access::Store { at, value });
+        Intent { access, ..self }
+    }
+
+    fn load(self, at: u64, register: u8) -> Intent
+        ensures { result ≡ record self { access = Some (Access.Load at register) } }
+    {
+        let access = Some(Access::Load { at, register });
+        Intent { access, ..self }
+    }
+
+    fn set(self, register: u8, value: u64) -> Intent
+        ensures { result ≡ record self { change = Some (record { register = register; value = value }) } }
+    {
+        let change = Some(Change { register, value });
+        Intent { change, ..self }
+    }
+
+    // Stores at RSP less 8, where RSP then stands.
+    fn push(self, value: u64) -> Intent
+        ensures { result ≡ record self { access = Some (Access.Store (below self.rsp) value); rsp = below self.rsp } }
+    {
+        let rsp = self.rsp.wrapping_sub(8);
+        Intent { rsp, ..self }.store(rsp, value)
+    }
+
+    // Accesses the word at RSP, which then stands above it.
+    fn pop(self, access: Access) -> Intent
+        ensures { result ≡ record self { access = Some access; rsp = above self.rsp } }
+    {
+        Intent {
+            access: Some(access),
+            rsp: self.rsp.wrapping_add(8),
+            ..self
+        }
+    }
 }
 
 // 32 signed bits as 64.
@@ -59,22 +111,11 @@ fn behind(from: u64, d: u32) -> u64
 pub fn value_of(registers: &Registers, register: u8) -> u64
     ensures { result ≡ register_value registers.now register }
 {
-    if register < 16 {
-        registers.integer[register as usize]
-    } else {
-        0
-    }
-}
-
-fn plain(access: Access, rsp: u64, rip: u64) -> Intent
-    ensures { result ≡ record { access = access; change = Change.Nothing; rsp = rsp; rip = rip } }
-{
-    Intent {
-        access,
-        change: Change::Nothing,
-        rsp,
-        rip,
-    }
+    registers
+        .integer
+        .get(usize::from(register))
+        .copied()
+        .unwrap_or(0)
 }
 
 // What an instruction of `length` bytes at RIP is about to do.
@@ -83,108 +124,61 @@ pub fn intent_of(i: Instruction, length: u64, registers: &Registers) -> Intent
 {
     let rsp = registers.integer[RSP];
     let next = registers.rip.0.wrapping_add(length);
+    let on = Intent {
+        access: None,
+        change: None,
+        rsp,
+        rip: next,
+    };
     match i {
-        Instruction::Push(r) => {
-            let at = rsp.wrapping_sub(8);
-            plain(
-                Access::Store {
-                    at,
-                    value: value_of(registers, r),
-                },
-                at,
-                next,
-            )
-        }
-        Instruction::Pop(r) => plain(
-            Access::Load {
-                at: rsp,
-                register: r,
-            },
-            rsp.wrapping_add(8),
-            next,
-        ),
-        Instruction::SubRsp(d) => plain(Access::Nothing, behind(rsp, d), next),
-        Instruction::AddRsp(d) => plain(Access::Nothing, ahead(rsp, d), next),
+        Instruction::Push(r) => on.push(value_of(registers, r)),
+        Instruction::Pop(register) => on.pop(Access::Load { at: rsp, register }),
+        Instruction::SubRsp(d) => Intent {
+            rsp: behind(rsp, d),
+            ..on
+        },
+        Instruction::AddRsp(d) => Intent {
+            rsp: ahead(rsp, d),
+            ..on
+        },
         Instruction::StoreAtRsp {
             register,
             displacement,
-        } => plain(
-            Access::Store {
-                at: ahead(rsp, displacement),
-                value: value_of(registers, register),
-            },
-            rsp,
-            next,
-        ),
+        } => on.store(ahead(rsp, displacement), value_of(registers, register)),
         Instruction::LoadAtRsp {
             register,
             displacement,
-        } => plain(
-            Access::Load {
-                at: ahead(rsp, displacement),
-                register,
-            },
-            rsp,
-            next,
-        ),
+        } => on.load(ahead(rsp, displacement), register),
         Instruction::LeaAtRsp {
             register,
             displacement,
-        } => Intent {
-            access: Access::Nothing,
-            change: Change::Set {
-                register,
-                value: ahead(rsp, displacement),
-            },
-            rsp,
-            rip: next,
-        },
+        } => on.set(register, ahead(rsp, displacement)),
         Instruction::StoreAtFrame {
             register,
             frame,
             displacement,
-        } => plain(
-            Access::Store {
-                at: ahead(value_of(registers, frame), displacement),
-                value: value_of(registers, register),
-            },
-            rsp,
-            next,
+        } => on.store(
+            ahead(value_of(registers, frame), displacement),
+            value_of(registers, register),
         ),
         Instruction::LoadAtFrame {
             register,
             frame,
             displacement,
-        } => plain(
-            Access::Load {
-                at: ahead(value_of(registers, frame), displacement),
-                register,
-            },
-            rsp,
-            next,
-        ),
+        } => on.load(ahead(value_of(registers, frame), displacement), register),
         Instruction::LeaRspAtFrame {
             frame,
             displacement,
-        } => plain(
-            Access::Nothing,
-            ahead(value_of(registers, frame), displacement),
-            next,
-        ),
-        Instruction::Set { register, value } => Intent {
-            access: Access::Nothing,
-            change: Change::Set {
-                register,
-                value: extend(value),
-            },
-            rsp,
-            rip: next,
+        } => Intent {
+            rsp: ahead(value_of(registers, frame), displacement),
+            ..on
         },
-        Instruction::Nop => plain(Access::Nothing, rsp, next),
-        Instruction::Call(d) => {
-            let at = rsp.wrapping_sub(8);
-            plain(Access::Store { at, value: next }, at, ahead(next, d))
-        }
-        Instruction::Ret => plain(Access::Return { at: rsp }, rsp.wrapping_add(8), next),
+        Instruction::Set { register, value } => on.set(register, extend(value)),
+        Instruction::Nop => on,
+        Instruction::Call(d) => Intent {
+            rip: ahead(next, d),
+            ..on.push(next)
+        },
+        Instruction::Ret => on.pop(Access::Return { at: rsp }),
     }
 }

@@ -2,4 +2,4 @@
 #![tactic(auto)]
 
 pub mod intent;
-pub mod perform;
+pub mod processor;

@@ -1,7 +1,9 @@
 -- What an accepted description says of its functions and their steps.
 use Rattle.std.proofs.Common.{min, ◌≡◌, ℕ, ◌+◌, ◌%◌, ◌<◌, ◌≤◌, Bool, true, false, cond, not, ◌&&◌, ◌||◌, eqb, leb, ◌≢◌, List, [], ◌∷◌, ◌++◌, map, length, take, drop, is_ok, Some, Ok, Err, Option, Result, sym, refl, ap, ◌∙◌, subst, ⊎_elim, arith}
+use Rattle.std.specs.List.{list_any}
 use Rattle.std.specs.Result.{result_map_both}
 use Rattle.std.proofs.lemmas.List.{length-take}
+use Rattle.std.proofs.lemmas.List.Folds.{list_any-append}
 use Rattle.std.proofs.lemmas.Bool.{false≢true, true≢false, and_parts, leb-true, eqb-true, ne_eqb, cases_eq, or_cases, or_parts, not-true}
 use Rattle.layout.specs.Registers.{preserved}
 use Rattle.steps.specs.declared.set_frame.SetFrameStep.{SetFrameStep}
@@ -9,7 +11,7 @@ use Rattle.plan.proofs.Passes.{next_ok, owed_good, counts_good, limits_within}
 use Rattle.plan.specs.Functions.{Text, Function, functions_in, functions_of}
 use Rattle.plan.specs.Refusals.{PlanFault, fault}
 use Rattle.plan.specs.Rules.{known, repeated, in_order, number_fits, shape_verdict, step_verdict}
-use Rattle.plan.specs.Steps.{step, step_of, any, pushes, sets_frame, saves_at, block, frame, Sound, AllSound}
+use Rattle.plan.specs.Steps.{step, step_of, pushes, sets_frame, saves_at, block, frame, Sound, AllSound}
 use Rattle.plan.specs.Verdicts.{steps_verdict, function_verdict, functions_verdict, limits_verdict, steps_counted, plan_verdict}
 use Rattle.plan.specs.declared.step.Step.{Step}
 use Rattle.plan.specs.declared.step.Step.TheVariants.{Push, Allocate, SetFrame, Save}
@@ -71,19 +73,14 @@ Fines f used (s ∷ ss) = Fine used s × Framed f s × Fines f (used || sets_fra
 
 -- what the steps before say of saves and frames after them
 abbrev Before : List Step → Type 0
-Before before = (block before ≤ 2097152) × ((q : ℕ) → any (pushes q) before ≡ true → preserved q ≡ true)
+Before before = (block before ≤ 2097152) × ((q : ℕ) → list_any (pushes q) before ≡ true → preserved q ≡ true)
 
 or_swap : (b : Bool) → (b || false) ≡ b
 or_swap true = refl
 or_swap false = refl
 
-or_assoc : (a b c : Bool) → (a || (b || c)) ≡ ((a || b) || c)
-or_assoc true b c = refl
-or_assoc false b c = refl
-
-pub any_push : (g : Step → Bool) (ss : List Step) (s : Step) → any g (ss ++ s ∷ []) ≡ (any g ss || g s)
-any_push g [] s = or_swap (g s)
-any_push g (x ∷ ss) s = ap (λ b. g x || b) (any_push g ss s) ∙ or_assoc (g x) (any g ss) (g s)
+any_push : (g : Step → Bool) (ss : List Step) (s : Step) → list_any g (ss ++ s ∷ []) ≡ (list_any g ss || g s)
+any_push g ss s = list_any-append g ss (s ∷ []) ∙ ap (λ b. list_any g ss || b) (or_swap (g s))
 
 block_push : (ss : List Step) (s : Step) → block ss ≤ 2097152 → block (s ∷ []) ≤ 2097152 → block (ss ++ s ∷ []) ≤ 2097152
 unfolding block
@@ -109,7 +106,7 @@ pushes_one used (Save k) h q e = absurd (false≢true e)
 before_push : (before : List Step) (used : Bool) (s : Step) → Before before → Fine used s → Before (before ++ s ∷ [])
 before_push before used s b h = (
   block_push before s b.0 (block_one used s h),
-  λ q e. ⊎_elim (b.1 q) (pushes_one used s h q) (or_cases (any (pushes q) before) (pushes q s) (sym (any_push (pushes q) before s) ∙ e)),
+  λ q e. ⊎_elim (b.1 q) (pushes_one used s h q) (or_cases (list_any (pushes q) before) (pushes q s) (sym (any_push (pushes q) before s) ∙ e)),
 )
 
 -- the rules of one step
@@ -130,7 +127,7 @@ at_ok (Err e) index h = absurd (false≢true (ap is_ok h))
 module _ (does : Bool) (before : List Step) (b : Before before) where
   -- what is owed of a record
   abbrev Owed : StepRecord → Type 0
-  Owed r = known r ≡ true → shape_verdict does before (step_of r) ≡ Ok tt → (record_of (step_of r) ≡ r) × Fine (any sets_frame before) (step_of r)
+  Owed r = known r ≡ true → shape_verdict does before (step_of r) ≡ Ok tt → (record_of (step_of r) ≡ r) × Fine (list_any sets_frame before) (step_of r)
 
   push_owed : (r n : ℕ) → Owed (step 0 r n)
   push_owed r n k v =
@@ -147,17 +144,17 @@ module _ (does : Bool) (before : List Step) (b : Before before) where
   frame_owed : (r n : ℕ) → Owed (step 2 r n)
   frame_owed r n k v =
       let g = shape_good (repeated before (step_of (step 2 r n))) (in_order before (step_of (step 2 r n))) (number_fits does before (step_of (step 2 r n))) v in
-      let i = and_parts (not (any sets_frame before)) (not (eqb r 12) && any (pushes r) before) g.0 in
-      let j = and_parts (not (eqb r 12)) (any (pushes r) before) i.1 in
+      let i = and_parts (not (list_any sets_frame before)) (not (eqb r 12) && list_any (pushes r) before) g.0 in
+      let j = and_parts (not (eqb r 12)) (list_any (pushes r) before) i.1 in
       let p = and_parts (leb (min n 255) 240) (eqb (min n 255 % 16) 0) g.1 in
       let small : min n 255 ≤ 240 = leb-true (min n 255) 240 p.0 in
-      (ap (step 2 r) (byte_small n small), (b.1 r j.1, small, eqb-true (min n 255 % 16) 0 p.1, not-true (any sets_frame before) i.0))
+      (ap (step 2 r) (byte_small n small), (b.1 r j.1, small, eqb-true (min n 255 % 16) 0 p.1, not-true (list_any sets_frame before) i.0))
 
   save_owed : (r n : ℕ) → Owed (step 3 r n)
   save_owed r n k v =
       let g = shape_good (repeated before (step_of (step 3 r n))) (in_order before (step_of (step 3 r n))) (number_fits does before (step_of (step 3 r n))) v in
-      let p = and_parts (eqb (n % 8) 0) (leb (n + 8) (block before) && (not (any (saves_at n) before) && (not does || leb 32 n))) g.1 in
-      let q = and_parts (leb (n + 8) (block before)) (not (any (saves_at n) before) && (not does || leb 32 n)) p.1 in
+      let p = and_parts (eqb (n % 8) 0) (leb (n + 8) (block before) && (not (list_any (saves_at n) before) && (not does || leb 32 n))) g.1 in
+      let q = and_parts (leb (n + 8) (block before)) (not (list_any (saves_at n) before) && (not does || leb 32 n)) p.1 in
       let in_block : n + 8 ≤ block before = leb-true (n + 8) (block before) q.0 in
       (refl, (k, omega (arith, in_block, b.0), eqb-true (n % 8) 0 p.0))
 
@@ -177,13 +174,13 @@ module _ (does : Bool) (before : List Step) (b : Before before) where
       of_kind r 3 (last_kind r x y z k) (save_owed r.register r.number) k v)
       (cases_eq r.kind 2)) (cases_eq r.kind 1)) (cases_eq r.kind 0)
 
-  pub step_good : (index : ℕ) (r : StepRecord) → result_map_both (λ x. x) (λ n. fault n index) (step_verdict does before r) ≡ Ok tt → (record_of (step_of r) ≡ r) × Fine (any sets_frame before) (step_of r)
+  pub step_good : (index : ℕ) (r : StepRecord) → result_map_both (λ x. x) (λ n. fault n index) (step_verdict does before r) ≡ Ok tt → (record_of (step_of r) ≡ r) × Fine (list_any sets_frame before) (step_of r)
   step_good index r h =
       let g = known_good (known r) (shape_verdict does before (step_of r)) (at_ok (step_verdict does before r) index h) in
       owed r g.0 g.1
 
 -- the frame that a step sets is the first of those from it on
-framed_by : (f : Option SetFrameStep) (before : List Step) (s : Step) (ss : List Step) → Fine (any sets_frame before) s → (any sets_frame before ≡ false → f ≡ frame (s ∷ ss)) → Framed f s
+framed_by : (f : Option SetFrameStep) (before : List Step) (s : Step) (ss : List Step) → Fine (list_any sets_frame before) s → (list_any sets_frame before ≡ false → f ≡ frame (s ∷ ss)) → Framed f s
 unfolding frame
 framed_by f before (Push k) ss h link = tt
 framed_by f before (Allocate k) ss h link = tt
@@ -198,8 +195,8 @@ frame_rest (SetFrame k) ss e = absurd (false≢true (sym e))
 frame_rest (Save k) ss e = refl
 
 -- accepted steps are good, and their records say all
-pub steps_good : (does : Bool) (index : ℕ) (f : Option SetFrameStep) (before : List Step) (rs : List StepRecord) → Before before → steps_verdict does index before rs ≡ Ok tt → (any sets_frame before ≡ false → f ≡ frame (map step_of rs)) →
-    (map record_of (map step_of rs) ≡ rs) × Fines f (any sets_frame before) (map step_of rs)
+pub steps_good : (does : Bool) (index : ℕ) (f : Option SetFrameStep) (before : List Step) (rs : List StepRecord) → Before before → steps_verdict does index before rs ≡ Ok tt → (list_any sets_frame before ≡ false → f ≡ frame (map step_of rs)) →
+    (map record_of (map step_of rs) ≡ rs) × Fines f (list_any sets_frame before) (map step_of rs)
 unfolding steps_verdict
 steps_good does index f before [] b v link = (refl, tt)
 steps_good does index f before (r ∷ rs) b v link =
@@ -207,9 +204,9 @@ steps_good does index f before (r ∷ rs) b v link =
     let ss : List Step = map step_of rs in
     let p = next_ok _ _ v in
     let g = step_good does before b index r p.0 in
-    let after : (any sets_frame (before ++ s ∷ []) ≡ false → f ≡ frame ss) =
-    λ e. let q = or_parts (any sets_frame before) (sets_frame s) (sym (any_push sets_frame before s) ∙ e) in link q.0 ∙ frame_rest s ss q.1 in
-    let more = steps_good does (index + 1) f (before ++ s ∷ []) rs (before_push before (any sets_frame before) s b g.1) p.1 after in (
+    let after : (list_any sets_frame (before ++ s ∷ []) ≡ false → f ≡ frame ss) =
+    λ e. let q = or_parts (list_any sets_frame before) (sets_frame s) (sym (any_push sets_frame before s) ∙ e) in link q.0 ∙ frame_rest s ss q.1 in
+    let more = steps_good does (index + 1) f (before ++ s ∷ []) rs (before_push before (list_any sets_frame before) s b g.1) p.1 after in (
       ap (λ x. x ∷ map record_of ss) g.0 ∙ ap (λ l. r ∷ l) more.0,
       (g.1, framed_by f before s ss g.1 link, subst (λ u. Fines f u ss) (any_push sets_frame before s) more.1),
     )

@@ -1,12 +1,17 @@
 -- The loops of the checks, step by step.
-use Rattle.std.proofs.Common.{◌≡◌, ℕ, ◌+◌, ◌<◌, ◌≤◌, Bool, true, false, ◌&&◌, ◌||◌, eqb, leb, List, [], ◌∷◌, ◌++◌, map, length, get_or, take, drop, is_ok, Ok, Err, sym, refl, ap, ◌∙◌, arith}
-use Rattle.std.proofs.lemmas.List.{at_drop_more, at_drop_all, take_more, map-append, length-take-le, length-drop, drop-drop}
+use Rattle.std.proofs.Common.{◌≡◌, ℕ, suc, ◌+◌, ◌<◌, ◌≤◌, Bool, true, false, cond, not, eqb, leb, List, [], ◌∷◌, ◌++◌, All, map, sum_by, length, get_or, take, drop, is_ok, Some, None, Ok, Err, Option, sym, refl, ap, ◌∙◌, subst, arith}
+use Rattle.std.proofs.lemmas.List.{at_drop_more, take_more, map-append, length-take, length-drop}
+use Rattle.std.proofs.lemmas.List.Elements.{All-nil, All-cons, All-tail}
+use Rattle.std.proofs.lemmas.List.Sums.{sum_by-cons}
+use Rattle.std.proofs.lemmas.List.Recursion.{is_sum_by}
+use Rattle.std.specs.List.{position, position_from}
+use Rattle.std.proofs.lemmas.Iterator.Adapters.{position_from-zero}
 use Rattle.std.proofs.lemmas.Bool.{both_ways, and_parts, leb-true, eqb-true}
 use Rattle.plan.specs.Functions.{Function, functions_in}
-use Rattle.plan.specs.Refusals.{PlanFault, at_index}
+use Rattle.plan.specs.Refusals.{PlanFault, fault, at_index}
 use Rattle.plan.specs.Rules.{step_verdict, operation_good}
 use Rattle.plan.specs.Steps.{step_of}
-use Rattle.plan.specs.Verdicts.{Verdict, next, owed, calls, within, limits_verdict, steps_counted, operations_counted, counts_verdict, steps_verdict, operations_verdict, function_verdict, functions_verdict}
+use Rattle.plan.specs.Verdicts.{Verdict, next, owed, within, limits_verdict, steps_counted, operations_counted, counts_verdict, steps_verdict, operations_verdict, function_verdict, functions_verdict}
 use Rattle.plan.specs.declared.step.Step.{Step}
 use Rattle.plan.specs.declared.text.Counts.{Counts}
 use Rattle.plan.specs.declared.text.OperationRecord.{OperationRecord}
@@ -26,17 +31,6 @@ pub owed_good : (good : Bool) (number index : ℕ) → owed good number index �
 owed_good true number index h = refl
 owed_good false number index h = absurd (both_ways (is_ok (owed false number index)) refl (ap is_ok h))
 
-pub length_part : {X : Type 0} (xs : List X) (at n : ℕ) → at + n ≤ length xs → length (take n (drop at xs)) ≡ n
-length_part xs at n h = length-take-le n (drop at xs) (omega (arith, length-drop at xs))
-
--- a call among the operations left
-module _ (os : List OperationRecord) (i : ℕ) (d : OperationRecord) (h : i < length os) where
-  pub calls_stop : eqb (get_or os i d).kind 3 ≡ true → calls (drop i os) ≡ true
-  calls_stop y = at_drop_more calls os i d h ∙ ap (λ b. b || calls (drop (i + 1) os)) y
-
-  pub calls_on : eqb (get_or os i d).kind 3 ≡ false → calls (drop i os) ≡ calls (drop (i + 1) os)
-  calls_on y = at_drop_more calls os i d h ∙ ap (λ b. b || calls (drop (i + 1) os)) y
-
 -- one step
 module _ (does : Bool) (index : ℕ) (rs : List StepRecord) (i : ℕ) (d : StepRecord) (h : i < length rs) where
   pub steps_one : steps_verdict does (index + i) (map step_of (take i rs)) (drop i rs)
@@ -50,43 +44,43 @@ module _ (does : Bool) (index : ℕ) (rs : List StepRecord) (i : ℕ) (d : StepR
       ∙ ap (λ b. next (at_index (index + i) (step_verdict does (map step_of (take i rs)) r)) (steps_verdict does (index + i + 1) b (drop (i + 1) rs))) (sym front)
       ∙ ap (λ k. next (at_index (index + i) (step_verdict does (map step_of (take i rs)) r)) (steps_verdict does k (map step_of (take (i + 1) rs)) (drop (i + 1) rs))) place
 
--- one operation
-module _ (n : ℕ) (ss : List Step) (index : ℕ) (os : List OperationRecord) (i : ℕ) (d : OperationRecord) (h : i < length os) where
-  pub operations_one : operations_verdict n ss (index + i) (drop i os) ≡ next (owed (operation_good n ss (get_or os i d)) 17 (index + i)) (operations_verdict n ss (index + (i + 1)) (drop (i + 1) os))
+-- a check of each element, from this index on, stops at the first that is not good
+abbrev pub first_fault : ℕ → ℕ → Option ℕ → Verdict
+first_fault number index None = Ok tt
+first_fault number index (Some k) = Err (fault number (index + k))
+
+first_next : (good : Bool) (number index k i : ℕ) (rest : Option ℕ) → i ≡ index + k → next (owed good number i) (first_fault number index rest) ≡ first_fault number index (cond (not good) (Some k) rest)
+first_next true number index k i rest e = refl
+first_next false number index k i rest e = ap (λ j. Err (fault number j)) e
+
+limits_from : (index k i : ℕ) (cs : List Counts) → i ≡ index + k → limits_verdict i cs ≡ first_fault 11 index (position_from (λ c. not (within c)) k cs)
+unfolding limits_verdict
+limits_from index k i [] e = refl
+limits_from index k i (x ∷ cs) e = ap (next (owed (within x) 11 i)) (limits_from index (k + 1) (i + 1) cs (omega (arith, e))) ∙ first_next (within x) 11 index k i (position_from (λ c. not (within c)) (k + 1) cs) e
+
+pub limits_first : (cs : List Counts) → limits_verdict 0 cs ≡ first_fault 11 0 (position (λ c. not (within c)) cs)
+limits_first cs = limits_from 0 0 0 cs (omega arith) ∙ ap (first_fault 11 0) (sym (position_from-zero (λ c. not (within c)) cs))
+
+module _ (n : ℕ) (ss : List Step) where
+  abbrev bad : OperationRecord → Bool
+  bad o = not (operation_good n ss o)
+
+  operations_from : (index k i : ℕ) (os : List OperationRecord) → i ≡ index + k → operations_verdict n ss i os ≡ first_fault 17 index (position_from bad k os)
   unfolding operations_verdict
-  operations_one =
-      let place : index + i + 1 ≡ index + (i + 1) = omega arith in
-      at_drop_more (operations_verdict n ss (index + i)) os i d h
-      ∙ ap (λ k. next (owed (operation_good n ss (get_or os i d)) 17 (index + i)) (operations_verdict n ss k (drop (i + 1) os))) place
+  operations_from index k i [] e = refl
+  operations_from index k i (o ∷ os) e = ap (next (owed (operation_good n ss o) 17 i)) (operations_from index (k + 1) (i + 1) os (omega (arith, e))) ∙ first_next (operation_good n ss o) 17 index k i (position_from bad (k + 1) os) e
 
--- the counts of one function
-module _ (cs : List Counts) (k : ℕ) (d : Counts) (h : k < length cs) where
-  pub limits_one : limits_verdict k (drop k cs) ≡ next (owed (within (get_or cs k d)) 11 k) (limits_verdict (k + 1) (drop (k + 1) cs))
-  unfolding limits_verdict
-  limits_one = at_drop_more (limits_verdict k) cs k d h
+  pub operations_first : (index : ℕ) (os : List OperationRecord) → operations_verdict n ss index os ≡ first_fault 17 index (position (λ o. not (operation_good n ss o)) os)
+  operations_first index os = operations_from index 0 index os (omega arith) ∙ ap (first_fault 17 index) (sym (position_from-zero bad os))
 
-  pub steps_more : steps_counted (drop k cs) ≡ (get_or cs k d).steps + steps_counted (drop (k + 1) cs)
-  unfolding steps_counted
-  steps_more = at_drop_more steps_counted cs k d h
+-- the counts, summed by the library's word
+pub steps_summed : (cs : List Counts) → steps_counted cs ≡ sum_by (λ c. c.steps) cs
+unfolding steps_counted
+steps_summed cs = is_sum_by steps_counted (λ c. c.steps) refl (λ x xs. refl) cs
 
-  pub operations_more : operations_counted (drop k cs) ≡ (get_or cs k d).operations + operations_counted (drop (k + 1) cs)
-  unfolding operations_counted
-  operations_more = at_drop_more operations_counted cs k d h
-
-pub none_counted : (cs : List Counts) (k index : ℕ) → length cs ≤ k → (limits_verdict index (drop k cs) ≡ Ok tt) × (steps_counted (drop k cs) ≡ 0) × (operations_counted (drop k cs) ≡ 0)
-unfolding limits_verdict steps_counted operations_counted
-none_counted cs k index h = (at_drop_all (limits_verdict index) cs k h, at_drop_all steps_counted cs k h, at_drop_all operations_counted cs k h)
-
--- the totals, where all counts are within the limits
-pub totals : (cs : List Counts) (k s o steps operations : ℕ) → length cs ≤ k → limits_verdict 0 cs ≡ limits_verdict k (drop k cs) → steps_counted cs ≡ s + steps_counted (drop k cs) → operations_counted cs ≡ o + operations_counted (drop k cs) →
-    counts_verdict cs steps operations ≡ owed (eqb s steps && eqb o operations) 11 (length cs)
-totals cs k s o steps operations h a b c =
-    let e = none_counted cs k k h in
-    let s' : steps_counted cs ≡ s = omega (arith, b, e.1) in
-    let o' : operations_counted cs ≡ o = omega (arith, c, e.2) in
-    ap (λ v. next v (owed (eqb (steps_counted cs) steps && eqb (operations_counted cs) operations) 11 (length cs))) (a ∙ e.0)
-    ∙ ap (λ n. owed (eqb n steps && eqb (operations_counted cs) operations) 11 (length cs)) s'
-    ∙ ap (λ n. owed (eqb s steps && eqb n operations) 11 (length cs)) o'
+pub operations_summed : (cs : List Counts) → operations_counted cs ≡ sum_by (λ c. c.operations) cs
+unfolding operations_counted
+operations_summed cs = is_sum_by operations_counted (λ c. c.operations) refl (λ x xs. refl) cs
 
 pub limits_within : (c : Counts) (k : ℕ) → owed (within c) 11 k ≡ Ok tt → (c.steps ≤ 10) × (c.operations ≤ 255)
 limits_within c k h =
@@ -101,56 +95,59 @@ counts_good cs s o h =
     (p.0, eqb-true _ _ q.0, eqb-true _ _ q.1)
 
 -- a function within the limits
-pub limits_good : (cs : List Counts) (k : ℕ) (d : Counts) → k < length cs → limits_verdict k (drop k cs) ≡ Ok tt → ((get_or cs k d).steps ≤ 10) × ((get_or cs k d).operations ≤ 255) × (limits_verdict (k + 1) (drop (k + 1) cs) ≡ Ok tt)
-limits_good cs k d h g =
-    let p = next_ok _ _ (sym (limits_one cs k d h) ∙ g) in
-    let q = limits_within (get_or cs k d) k p.0 in
-    (q.0, q.1, p.1)
+abbrev pub Small : Function → Type 0
+Small f = (length f.steps ≤ 10) × (length f.operations ≤ 255)
 
--- the functions from k on have the rest of the lists, from s and o on
-abbrev pub InLists : List Counts → List StepRecord → List OperationRecord → ℕ → ℕ → ℕ → Type 0
-InLists cs ss os k s o = (length ss ≡ s + steps_counted (drop k cs)) × (length os ≡ o + operations_counted (drop k cs)) × (limits_verdict k (drop k cs) ≡ Ok tt)
+take_short : {X : Type 0} (n m : ℕ) (xs : List X) → n ≤ m → length (take n xs) ≤ m
+take_short n m xs h = simp length-take (omega arith)
 
-pub lists_start : (cs : List Counts) (ss : List StepRecord) (os : List OperationRecord) → counts_verdict cs (length ss) (length os) ≡ Ok tt → InLists cs ss os 0 0 0
-lists_start cs ss os h =
-    let p = counts_good cs (length ss) (length os) h in
-    (omega (arith, p.1), omega (arith, p.2), p.0)
+pub all_small : (k : ℕ) (cs : List Counts) (ss : List StepRecord) (os : List OperationRecord) → limits_verdict k cs ≡ Ok tt → All Small (functions_in cs ss os)
+unfolding limits_verdict functions_in
+all_small k [] ss os h = All-nil Small
+all_small k (x ∷ cs) ss os h =
+    let p = next_ok _ _ h in
+    let w = limits_within x k p.0 in
+    All-cons Small _ _ (take_short x.steps 10 ss w.0, take_short x.operations 255 os w.1) (all_small (k + 1) cs (drop x.steps ss) (drop x.operations os) p.1)
 
-module _ (cs : List Counts) (ss : List StepRecord) (os : List OperationRecord) (k s o : ℕ) (d : Counts) (h : k < length cs) (left : InLists cs ss os k s o) where
-  pub lists_fit : (s + (get_or cs k d).steps ≤ length ss) × (o + (get_or cs k d).operations ≤ length os) × ((get_or cs k d).steps ≤ 10) × ((get_or cs k d).operations ≤ 255)
-  lists_fit =
-      let g = limits_good cs k d h left.2 in
-      (omega (arith, left.0, steps_more cs k d h), omega (arith, left.1, operations_more cs k d h), g.0, g.1)
+-- the functions have no more than the lists
+abbrev pub steps_in : List Function → ℕ
+steps_in fs = sum_by (λ f. length f.steps) fs
 
-  pub lists_on : InLists cs ss os (k + 1) (s + (get_or cs k d).steps) (o + (get_or cs k d).operations)
-  lists_on = (omega (arith, left.0, steps_more cs k d h), omega (arith, left.1, operations_more cs k d h), (limits_good cs k d h left.2).2)
+abbrev pub operations_in : List Function → ℕ
+operations_in fs = sum_by (λ f. length f.operations) fs
 
--- one function
-module _ (n : ℕ) (cs : List Counts) (ss : List StepRecord) (os : List OperationRecord) (k s o : ℕ) (d : Counts) (h : k < length cs) where
-  abbrev c : Counts
-  c = get_or cs k d
+cut_once : {X : Type 0} (n m : ℕ) (xs : List X) → m ≤ length (drop n xs) → length (take n xs) + m ≤ length xs
+cut_once n m xs h = omega (arith, h, length-take n xs, length-drop n xs)
 
-  abbrev function : Function
-  function = record { steps = take c.steps (drop s ss); operations = take c.operations (drop o os) }
+pub few_steps_in : (cs : List Counts) (ss : List StepRecord) (os : List OperationRecord) → steps_in (functions_in cs ss os) ≤ length ss
+unfolding functions_in
+few_steps_in [] ss os = omega arith
+few_steps_in (x ∷ cs) ss os = rw sum_by-cons (cut_once x.steps _ ss (few_steps_in cs (drop x.steps ss) (drop x.operations os)))
 
-  pub functions_cons : functions_in (drop k cs) (drop s ss) (drop o os) ≡ function ∷ functions_in (drop (k + 1) cs) (drop (s + c.steps) ss) (drop (o + c.operations) os)
-  unfolding functions_in
-  functions_cons =
-      at_drop_more (λ l. functions_in l (drop s ss) (drop o os)) cs k d h
-      ∙ ap (λ l. function ∷ functions_in (drop (k + 1) cs) l (drop c.operations (drop o os))) (drop-drop c.steps s ss)
-      ∙ ap (λ l. function ∷ functions_in (drop (k + 1) cs) (drop (s + c.steps) ss) l) (drop-drop c.operations o os)
+pub few_operations_in : (cs : List Counts) (ss : List StepRecord) (os : List OperationRecord) → operations_in (functions_in cs ss os) ≤ length os
+unfolding functions_in
+few_operations_in [] ss os = omega arith
+few_operations_in (x ∷ cs) ss os = rw sum_by-cons (cut_once x.operations _ os (few_operations_in cs (drop x.steps ss) (drop x.operations os)))
 
-  pub functions_one : s + c.steps ≤ length ss → o + c.operations ≤ length os →
-      functions_verdict n k s o (functions_in (drop k cs) (drop s ss) (drop o os))
-      ≡ next (function_verdict n k s o function) (functions_verdict n (k + 1) (s + c.steps) (o + c.operations) (functions_in (drop (k + 1) cs) (drop (s + c.steps) ss) (drop (o + c.operations) os)))
-  unfolding functions_verdict
-  functions_one a b =
-      let rest = functions_in (drop (k + 1) cs) (drop (s + c.steps) ss) (drop (o + c.operations) os) in
-      let first = function_verdict n k s o function in
-      ap (functions_verdict n k s o) functions_cons
-      ∙ ap (λ j. next first (functions_verdict n (k + 1) (s + j) (o + length (take c.operations (drop o os))) rest)) (length_part ss s c.steps a)
-      ∙ ap (λ j. next first (functions_verdict n (k + 1) (s + c.steps) (o + j) rest)) (length_part os o c.operations b)
+pub length-functions_in : (cs : List Counts) (ss : List StepRecord) (os : List OperationRecord) → length (functions_in cs ss os) ≡ length cs
+unfolding functions_in
+length-functions_in [] ss os = refl
+length-functions_in (x ∷ cs) ss os = ap suc (length-functions_in cs (drop x.steps ss) (drop x.operations os))
 
-pub no_functions : (n index s o k : ℕ) (cs : List Counts) (ss : List StepRecord) (os : List OperationRecord) → length cs ≤ k → functions_verdict n index s o (functions_in (drop k cs) ss os) ≡ Ok tt
-unfolding functions_verdict functions_in
-no_functions n index s o k cs ss os h = at_drop_all (λ l. functions_verdict n index s o (functions_in l ss os)) cs k h
+-- the first function, by its index, and then the others
+pub functions_one : (n j k s o : ℕ) {fs : List Function} (f : Function) (gs : List Function) → fs ≡ f ∷ gs → k ≡ j → functions_verdict n j s o fs ≡ next (function_verdict n k s o f) (functions_verdict n (j + 1) (s + length f.steps) (o + length f.operations) gs)
+unfolding functions_verdict
+functions_one n j k s o f gs h e =
+    ap (functions_verdict n j s o) h
+    ∙ ap (λ i. next (function_verdict n i s o f) (functions_verdict n (j + 1) (s + length f.steps) (o + length f.operations) gs)) (sym e)
+
+pub no_functions : (n k s o : ℕ) {fs : List Function} → fs ≡ [] → functions_verdict n k s o fs ≡ Ok tt
+unfolding functions_verdict
+no_functions n k s o h = ap (functions_verdict n k s o) h
+
+-- one turn of a loop over functions: what holds of those left
+pub small_turn : {fs : List Function} (f : Function) (gs : List Function) → fs ≡ f ∷ gs → All Small fs → All Small gs
+small_turn f gs e h = All-tail Small f gs (subst (All Small) e h)
+
+pub in_turn : (g : Function → ℕ) (n m : ℕ) {fs : List Function} (f : Function) (gs : List Function) → fs ≡ f ∷ gs → n + sum_by g fs ≤ m → n + g f + sum_by g gs ≤ m
+in_turn g n m f gs e h = omega (arith, h, ap (sum_by g) e ∙ sum_by-cons g f gs)

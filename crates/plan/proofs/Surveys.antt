@@ -1,66 +1,75 @@
--- Loops over the steps that records mean.
-use Rattle.std.proofs.Common.{◌≡◌, ℕ, ◌+◌, ◌<◌, ◌≤◌, Bool, true, false, ◌||◌, List, [], ◌∷◌, map, length, get_or, drop, Some, sym, refl, ap, ◌∙◌}
-use Rattle.std.proofs.lemmas.List.{at_drop_more, at_drop_all}
-use Rattle.steps.specs.declared.allocate.AllocateStep.{AllocateStep}
-use Rattle.steps.specs.declared.push.PushStep.{PushStep}
+-- What is counted and found among steps, by the library's words.
+use Rattle.std.proofs.Common.{◌≡◌, ℕ, zero, suc, ◌+◌, ◌<◌, cond, not, List, [], ◌∷◌, map, length, get_or, Option, Some, None, unwrap_or, refl, sym, ap, ◌∙◌, arith}
+use Rattle.std.specs.List.{count_by}
+use Rattle.std.proofs.lemmas.List.Recursion.{is_count_by}
 use Rattle.steps.specs.declared.set_frame.SetFrameStep.{SetFrameStep}
-use Rattle.plan.specs.Steps.{step_of, any, pushed, block, frame}
+use Rattle.plan.specs.Steps.{step_of, other_than_push, pushed, block, frame}
 use Rattle.plan.specs.declared.step.Step.{Step}
 use Rattle.plan.specs.declared.step.Step.TheVariants.{Push, Allocate, SetFrame, Save}
 use Rattle.plan.specs.declared.text.StepRecord.{StepRecord}
 
-block-next : (s : Step) (ss : List Step) → ((k : AllocateStep) → s ≡ Allocate k → ⊥) → block (s ∷ ss) ≡ block ss
-unfolding block
-block-next (Push k) ss h = refl
-block-next (Allocate k) ss h = absurd (h k refl)
-block-next (SetFrame k) ss h = refl
-block-next (Save k) ss h = refl
-
-frame-next : (s : Step) (ss : List Step) → ((k : SetFrameStep) → s ≡ SetFrame k → ⊥) → frame (s ∷ ss) ≡ frame ss
-unfolding frame
-frame-next (Push k) ss h = refl
-frame-next (Allocate k) ss h = refl
-frame-next (SetFrame k) ss h = absurd (h k refl)
-frame-next (Save k) ss h = refl
-
-pushed-next : (s : Step) (ss : List Step) → ((k : PushStep) → s ≡ Push k → ⊥) → pushed (s ∷ ss) ≡ pushed ss
+pushed_one : (s : Step) (ss : List Step) → pushed (s ∷ ss) ≡ cond (not (other_than_push s)) (1 + pushed ss) (pushed ss)
 unfolding pushed
-pushed-next (Push k) ss h = absurd (h k refl)
-pushed-next (Allocate k) ss h = refl
-pushed-next (SetFrame k) ss h = refl
-pushed-next (Save k) ss h = refl
+pushed_one (Push k) ss = refl
+pushed_one (Allocate k) ss = refl
+pushed_one (SetFrame k) ss = refl
+pushed_one (Save k) ss = refl
 
--- at an index of the records
-module _ (rs : List StepRecord) (i : ℕ) (d : StepRecord) (h : i < length rs) (s : Step) (e : s ≡ step_of (get_or rs i d)) where
-  head_of : {Y : Type 0} (F : List Step → Y) → F (map step_of (drop i rs)) ≡ F (s ∷ map step_of (drop (i + 1) rs))
-  head_of F = at_drop_more (λ l. F (map step_of l)) rs i d h ∙ ap (λ x. F (x ∷ map step_of (drop (i + 1) rs))) (sym e)
+pub pushed_counted : (ss : List Step) → pushed ss ≡ count_by (λ s. not (other_than_push s)) ss
+unfolding pushed
+pushed_counted ss = is_count_by pushed (λ s. not (other_than_push s)) refl pushed_one ss
 
-  pub any_stop : (f : Step → Bool) → f s ≡ true → any f (map step_of (drop i rs)) ≡ true
-  any_stop f y = head_of (any f) ∙ ap (λ b. b || any f (map step_of (drop (i + 1) rs))) y
+-- r is what h gives of the first element of which it gives something
+abbrev pub IsFirstGiven : {X Y : Type 0} → (X → Option Y) → List X → Option Y → Type 0
+IsFirstGiven {X} {Y} h xs r =
+    (r ≡ None → (k : ℕ) (d : X) → k < length xs → h (get_or xs k d) ≡ None)
+    × ((y : Y) → r ≡ Some y → (i : ℕ) × (i < length xs) × ((d : X) → h (get_or xs i d) ≡ Some y) × ((k : ℕ) (d : X) → k < i → h (get_or xs k d) ≡ None))
 
-  pub any_on : (f : Step → Bool) → f s ≡ false → any f (map step_of (drop i rs)) ≡ any f (map step_of (drop (i + 1) rs))
-  any_on f y = head_of (any f) ∙ ap (λ b. b || any f (map step_of (drop (i + 1) rs))) y
+-- a word of the list that goes by that element
+module _ {X Y Z : Type 0} (h : X → Option Y) (z : Option Y → Z) (G : List X → Z) (nil : G [] ≡ z None) (one : (x : X) (xs : List X) → (h x ≡ None → G (x ∷ xs) ≡ G xs) × ((y : Y) → h x ≡ Some y → G (x ∷ xs) ≡ z (Some y))) where
+  none_given : (xs : List X) → ((k : ℕ) (d : X) → k < length xs → h (get_or xs k d) ≡ None) → G xs ≡ z None
+  none_given [] a = nil
+  none_given (x ∷ xs) a = (one x xs).0 (a 0 x (omega arith)) ∙ none_given xs (λ k d l. a (suc k) d (omega arith))
 
-  pub block_stop : (k : AllocateStep) → s ≡ Allocate k → block (map step_of (drop i rs)) ≡ k.size
-  unfolding block
-  block_stop k y = head_of block ∙ ap (λ x. block (x ∷ map step_of (drop (i + 1) rs))) y
+  given_at : (y : Y) (i : ℕ) (xs : List X) → i < length xs → ((d : X) → h (get_or xs i d) ≡ Some y) → ((k : ℕ) (d : X) → k < i → h (get_or xs k d) ≡ None) → G xs ≡ z (Some y)
+  given_at y i [] l p q = absurd (omega (arith, l))
+  given_at y zero (x ∷ xs) l p q = (one x xs).1 y (p x)
+  given_at y (suc i) (x ∷ xs) l p q = (one x xs).0 (q 0 x (omega arith)) ∙ given_at y i xs (omega (arith, l)) p (λ k d m. q (suc k) d (omega arith))
 
-  pub block_on : ((k : AllocateStep) → s ≡ Allocate k → ⊥) → block (map step_of (drop i rs)) ≡ block (map step_of (drop (i + 1) rs))
-  block_on n = head_of block ∙ block-next s _ n
+  pub first_given : (r : Option Y) (xs : List X) → IsFirstGiven h xs r → z r ≡ G xs
+  first_given None xs f = sym (none_given xs (f.0 refl))
+  first_given (Some y) xs f = let g = f.1 y refl in sym (given_at y g.0 xs g.1 g.2 g.3)
 
-  pub frame_stop : (k : SetFrameStep) → s ≡ SetFrame k → frame (map step_of (drop i rs)) ≡ Some k
-  unfolding frame
-  frame_stop k y = head_of frame ∙ ap (λ x. frame (x ∷ map step_of (drop (i + 1) rs))) y
+abbrev pub frame_of : Step → Option SetFrameStep
+frame_of (Push k) = None
+frame_of (Allocate k) = None
+frame_of (SetFrame k) = Some k
+frame_of (Save k) = None
 
-  pub frame_on : ((k : SetFrameStep) → s ≡ SetFrame k → ⊥) → frame (map step_of (drop i rs)) ≡ frame (map step_of (drop (i + 1) rs))
-  frame_on n = head_of frame ∙ frame-next s _ n
+abbrev pub size_of : Step → Option ℕ
+size_of (Push k) = None
+size_of (Allocate k) = Some k.size
+size_of (SetFrame k) = None
+size_of (Save k) = None
 
-  pub pushed_one : (k : PushStep) → s ≡ Push k → pushed (map step_of (drop i rs)) ≡ 1 + pushed (map step_of (drop (i + 1) rs))
-  unfolding pushed
-  pushed_one k y = head_of pushed ∙ ap (λ x. pushed (x ∷ map step_of (drop (i + 1) rs))) y
+frame_one : (s : Step) (ss : List Step) → (frame_of s ≡ None → frame (s ∷ ss) ≡ frame ss) × ((y : SetFrameStep) → frame_of s ≡ Some y → frame (s ∷ ss) ≡ Some y)
+unfolding frame
+frame_one (Push k) ss = (λ e. refl, λ y e. absurd cc)
+frame_one (Allocate k) ss = (λ e. refl, λ y e. absurd cc)
+frame_one (SetFrame k) ss = (λ e. absurd cc, λ y e. e)
+frame_one (Save k) ss = (λ e. refl, λ y e. absurd cc)
 
-  pub pushed_on : ((k : PushStep) → s ≡ Push k → ⊥) → pushed (map step_of (drop i rs)) ≡ pushed (map step_of (drop (i + 1) rs))
-  pushed_on n = head_of pushed ∙ pushed-next s _ n
+block_one : (s : Step) (ss : List Step) → (size_of s ≡ None → block (s ∷ ss) ≡ block ss) × ((y : ℕ) → size_of s ≡ Some y → block (s ∷ ss) ≡ y)
+unfolding block
+block_one (Push k) ss = (λ e. refl, λ y e. absurd cc)
+block_one (Allocate k) ss = (λ e. absurd cc, λ y e. ap (λ o. unwrap_or o 0) e)
+block_one (SetFrame k) ss = (λ e. refl, λ y e. absurd cc)
+block_one (Save k) ss = (λ e. refl, λ y e. absurd cc)
 
-pub none_left : {Y : Type 0} (F : List Step → Y) (rs : List StepRecord) (i : ℕ) → length rs ≤ i → F (map step_of (drop i rs)) ≡ F []
-none_left F rs i h = at_drop_all (λ l. F (map step_of l)) rs i h
+pub frame_found : (r : Option SetFrameStep) (rs : List StepRecord) → IsFirstGiven (λ x. frame_of (step_of x)) rs r → r ≡ frame (map step_of rs)
+unfolding frame
+frame_found r rs f = first_given (λ x. frame_of (step_of x)) (λ o. o) (λ l. frame (map step_of l)) refl (λ x xs. frame_one (step_of x) (map step_of xs)) r rs f
+
+pub block_found : (r : Option ℕ) (rs : List StepRecord) → IsFirstGiven (λ x. size_of (step_of x)) rs r → unwrap_or r 0 ≡ block (map step_of rs)
+unfolding block
+block_found r rs f = first_given (λ x. size_of (step_of x)) (λ o. unwrap_or o 0) (λ l. block (map step_of l)) refl (λ x xs. block_one (step_of x) (map step_of xs)) r rs f

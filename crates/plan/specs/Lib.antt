@@ -4,7 +4,6 @@ pub mod Layouts
 pub mod Operations
 pub mod Refusals
 pub mod Rules
-pub mod Sought
 pub mod Steps
 pub mod UnwindInfos
 pub mod Verdicts

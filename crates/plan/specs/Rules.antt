@@ -1,8 +1,9 @@
 -- The rules for one step, by the steps before it, and for one operation.
 use Rattle.std.specs.Prelude.{ℕ, ◌+◌, ◌*◌, ◌%◌, Bool, true, false, cond, not, ◌&&◌, ◌||◌, List, Ok, Err, Result, ◌==◌, nat_le, nat_lt}
+use Rattle.std.specs.List.{list_any}
 use Rattle.layout.specs.Registers.{preserved, volatile}
 use Rattle.plan.specs.Operations.{pattern}
-use Rattle.plan.specs.Steps.{step_of, any, keeps, pushes, frames, sets_frame, saves_at, other_than_push, pushed, block}
+use Rattle.plan.specs.Steps.{step_of, keeps, pushes, frames, sets_frame, saves_at, other_than_push, pushed, block}
 use Rattle.plan.specs.declared.step.Step.{Step}
 use Rattle.plan.specs.declared.step.Step.TheVariants.{Push, Allocate, SetFrame, Save}
 use Rattle.plan.specs.declared.text.OperationRecord.{OperationRecord}
@@ -18,21 +19,21 @@ known r =
 
 -- the register is pushed or saved before
 abbrev pub repeated : List Step → Step → Bool
-repeated before (Push k) = any (keeps k.register) before
+repeated before (Push k) = list_any (keeps k.register) before
 repeated before (Allocate k) = false
 repeated before (SetFrame k) = false
-repeated before (Save k) = any (keeps k.register) before
+repeated before (Save k) = list_any (keeps k.register) before
 
 -- pushes, at most one allocate, and then at most one set-frame, of a pushed register other than 12, and saves
 abbrev pub in_order : List Step → Step → Bool
-in_order before (Push k) = not (any other_than_push before)
-in_order before (Allocate k) = not (any other_than_push before)
-in_order before (SetFrame k) = not (any sets_frame before) && (not (k.register == 12) && any (pushes k.register) before)
+in_order before (Push k) = not (list_any other_than_push before)
+in_order before (Allocate k) = not (list_any other_than_push before)
+in_order before (SetFrame k) = not (list_any sets_frame before) && (not (k.register == 12) && list_any (pushes k.register) before)
 in_order before (Save k) = true
 
 -- a slot of its own inside the block, from 32 up in a function that calls
 abbrev pub slot_fits : Bool → List Step → ℕ → Bool
-slot_fits calls before o = o % 8 == 0 && (nat_le (o + 8) (block before) && (not (any (saves_at o) before) && (not calls || nat_le 32 o)))
+slot_fits calls before o = o % 8 == 0 && (nat_le (o + 8) (block before) && (not (list_any (saves_at o) before) && (not calls || nat_le 32 o)))
 
 -- a size from 8 to 2,097,152 by 8; an offset from 0 to 240 by 16; a slot
 abbrev pub number_fits : Bool → List Step → Step → Bool
@@ -59,12 +60,12 @@ aligned calls ss = not calls || ((8 * pushed ss + block ss) % 16 == 8 && nat_le 
 
 -- a register that an operation may set: volatile, pushed or saved, but not the frame register
 abbrev pub settable : List Step → ℕ → Bool
-settable ss r = (volatile r || any (keeps r) ss) && not (any (frames r) ss)
+settable ss r = (volatile r || list_any (keeps r) ss) && not (list_any (frames r) ss)
 
 -- in a module of n functions
 abbrev pub operation_good : ℕ → List Step → OperationRecord → Bool
 operation_good n ss r =
     cond (r.kind == 0) (r.first == 0 && pattern r.number == 0)
     (cond (r.kind == 1) (settable ss r.first)
-    (cond (r.kind == 2) (r.first == 0 && (nat_le 16 (pattern r.number) && (nat_le (pattern r.number) 65520 && (pattern r.number % 16 == 0 && any sets_frame ss))))
+    (cond (r.kind == 2) (r.first == 0 && (nat_le 16 (pattern r.number) && (nat_le (pattern r.number) 65520 && (pattern r.number % 16 == 0 && list_any sets_frame ss))))
     (r.kind == 3 && (nat_lt r.first n && pattern r.number == 0))))

@@ -1,5 +1,5 @@
 -- The steps of a prologue, and what they lay out together.
-use Rattle.std.specs.Prelude.{◌≡◌, ℕ, ◌+◌, ◌%◌, ◌<◌, ◌≤◌, Bool, true, false, cond, ◌||◌, List, [], ◌∷◌, Some, None, Option, ◌==◌, min}
+use Rattle.std.specs.Prelude.{◌≡◌, ℕ, ◌+◌, ◌%◌, ◌<◌, ◌≤◌, Bool, true, false, cond, List, [], ◌∷◌, Some, None, Option, ◌==◌, min}
 use Rattle.layout.specs.Registers.{preserved}
 use Rattle.x64.specs.declared.instruction.Instruction.{Instruction}
 use Rattle.x64.specs.declared.instruction.Instruction.TheVariants.{Push as PushRegister, SubRsp, StoreAtRsp, LeaAtRsp}
@@ -44,11 +44,6 @@ Sound (Save k) = (preserved k.register ≡ true) × (k.register < 16) × (k.offs
 abbrev pub AllSound : List Step → Type 0
 AllSound [] = Unit
 AllSound (s ∷ ss) = Sound s × AllSound ss
-
--- some element passes a test
-abbrev pub any : {X : Type 0} → (X → Bool) → List X → Bool
-any f [] = false
-any f (x ∷ xs) = f x || any f xs
 
 -- keeps the register: pushes or saves it
 abbrev pub keeps : ℕ → Step → Bool

@@ -1,9 +1,10 @@
 -- Which descriptions are accepted, and else the first refusal.
 use Rattle.std.specs.Prelude.{ℕ, ◌+◌, Bool, cond, ◌&&◌, List, [], ◌∷◌, ◌++◌, map, length, Ok, Err, Result, ◌==◌, nat_eq, nat_le}
+use Rattle.std.specs.List.{list_any}
 use Rattle.plan.specs.Functions.{Text, Function, functions_of}
 use Rattle.plan.specs.Refusals.{PlanFault, fault, at_index}
 use Rattle.plan.specs.Rules.{step_verdict, aligned, operation_good}
-use Rattle.plan.specs.Steps.{step_of, any}
+use Rattle.plan.specs.Steps.{step_of}
 use Rattle.plan.specs.declared.step.Step.{Step}
 use Rattle.plan.specs.declared.text.Counts.{Counts}
 use Rattle.plan.specs.declared.text.OperationRecord.{OperationRecord}
@@ -32,7 +33,7 @@ operations_verdict n ss index (o ∷ os) = next (owed (operation_good n ss o) 17
 
 -- an operation of kind 3, good or not
 abbrev pub calls : List OperationRecord → Bool
-calls os = any (λ o. nat_eq o.kind 3) os
+calls os = list_any (λ o. nat_eq o.kind 3) os
 
 -- each step, then 16, then each operation
 abbrev pub function_verdict : ℕ → ℕ → ℕ → ℕ → Function → Verdict

@@ -1,13 +1,13 @@
 // Which descriptions are accepted.
 ghost use Rattle.std.specs.Prelude.{◌≡◌, ℕ, ◌+◌, ◌^◌, ◌<◌, ◌≤◌, ◌&&◌, [], map, length, Ok, ◌==◌};
-ghost use Rattle.plan.specs.Functions.{text_of, functions_in};
+ghost use Rattle.plan.specs.Functions.{text_of, function_of, functions_of};
 ghost use Rattle.plan.specs.Refusals.{reason_number, told};
 ghost use Rattle.plan.specs.Steps.{step_of};
-ghost use Rattle.plan.specs.Verdicts.{owed, within, calls, steps_verdict, operations_verdict, function_verdict, functions_verdict, counts_verdict, plan_verdict};
+ghost use Rattle.plan.specs.Verdicts.{owed, within, calls, steps_verdict, operations_verdict, function_verdict, functions_verdict, steps_counted, operations_counted, counts_verdict, plan_verdict};
 
-use crate::refusal::{PlanReason, PlanRefusal, at_index};
+use crate::refusal::{PlanReason, PlanRefusal};
 use crate::rules::{check_step, is_aligned, is_operation};
-use crate::text::{Counts, OperationRecord, Plan, StepRecord, part};
+use crate::text::{Counts, Function, OperationRecord, Plan, StepRecord};
 
 // A module has at most this many functions, a function at most this many steps and operations.
 pub const MAX_FUNCTIONS: usize = 64;
@@ -20,11 +20,7 @@ pub const MAX_OPERATIONS: u16 = 255;
 fn owe(good: bool, reason: PlanReason, index: usize) -> Result<(), PlanRefusal>
     ensures { told result ≡ owed good (reason_number reason) index }
 {
-    if good {
-        Ok(())
-    } else {
-        Err(PlanRefusal { reason, index })
-    }
+    good.then_some(()).ok_or(reason.at(index))
 }
 
 fn is_within(c: Counts) -> bool
@@ -33,45 +29,38 @@ fn is_within(c: Counts) -> bool
     c.steps <= MAX_STEPS && c.operations <= MAX_OPERATIONS
 }
 
-// Whether so many counted steps and operations are all that there are.
-fn are_all(s: usize, o: usize, steps: usize, operations: usize) -> bool
-    ensures { result ≡ (s == steps && o == operations) }
+// Whether the lists have as many steps and operations as are counted.
+#[tactic(auto, using(crate::proofs::Passes::steps_summed, crate::proofs::Passes::operations_summed))]
+fn are_all_counted(plan: &Plan<'_>) -> bool
+    requires { length plan.now.functions.now ≤ 64 }
+    ensures { result ≡ (steps_counted plan.now.functions.now == length plan.now.steps.now && operations_counted plan.now.functions.now == length plan.now.operations.now) }
 {
-    s == steps && o == operations
+    let steps: usize = plan.functions.iter().map(|c| usize::from(c.steps)).sum();
+    let operations: usize = plan
+        .functions
+        .iter()
+        .map(|c| usize::from(c.operations))
+        .sum();
+    steps == plan.steps.len() && operations == plan.operations.len()
 }
 
 // 11: a count over its limit, or counts that do not match the lists.
-fn check_counts(counts: &[Counts], steps: usize, operations: usize) -> Result<(), PlanRefusal>
-    requires { length counts.now ≤ 64 }
-    ensures { told result ≡ counts_verdict counts.now steps operations }
+fn check_counts(plan: &Plan<'_>) -> Result<(), PlanRefusal>
+    requires { length plan.now.functions.now ≤ 64 }
+    ensures { told result ≡ counts_verdict plan.now.functions.now (length plan.now.steps.now) (length plan.now.operations.now) }
 {
-    let mut s = 0;
-    let mut o = 0;
-    let mut k = 0;
-    while k < counts.len() {
-        let c = counts[k];
-        owe(is_within(c), PlanReason::Counts, k)?;
-        s += usize::from(c.steps);
-        o += usize::from(c.operations);
-        k += 1;
+    let counts = plan.functions;
+    if let Some(k) = counts.iter().position(|c| !is_within(*c)) {
+        return Err(PlanReason::Counts.at(k));
     }
-    owe(
-        are_all(s, o, steps, operations),
-        PlanReason::Counts,
-        counts.len(),
-    )
+    owe(are_all_counted(plan), PlanReason::Counts, counts.len())
 }
 
 // Whether an operation calls.
 fn has_call(operations: &[OperationRecord]) -> bool
     ensures { result ≡ calls operations.now }
 {
-    for o in operations {
-        if o.kind == 3 {
-            return true;
-        }
-    }
-    false
+    operations.iter().any(|o| o.kind == 3)
 }
 
 // 12 to 15 for each step; `index` is that of the first.
@@ -79,10 +68,8 @@ fn check_steps(calls: bool, index: usize, steps: &[StepRecord]) -> Result<(), Pl
     requires { index + length steps.now < 2 ^ 64 }
     ensures { told result ≡ steps_verdict calls index [] steps.now }
 {
-    let mut i = 0;
-    while i < steps.len() {
-        at_index(check_step(calls, &steps[..i], steps[i]), index + i)?;
-        i += 1;
+    for (i, r) in steps.iter().enumerate() {
+        check_step(calls, &steps[..i], *r).map_err(|reason| reason.at(index + i))?;
     }
     Ok(())
 }
@@ -97,13 +84,13 @@ fn check_operations(
     requires { index + length operations.now < 2 ^ 64 }
     ensures { told result ≡ operations_verdict functions (map step_of steps.now) index operations.now }
 {
-    let mut i = 0;
-    while i < operations.len() {
-        let good = is_operation(functions, steps, operations[i]);
-        owe(good, PlanReason::Operation, index + i)?;
-        i += 1;
+    match operations
+        .iter()
+        .position(|o| !is_operation(functions, steps, *o))
+    {
+        None => Ok(()),
+        Some(i) => Err(PlanReason::Operation.at(index + i)),
     }
-    Ok(())
 }
 
 // 12 to 17 for function `index`; `step` and `operation` are the indexes of its first.
@@ -112,38 +99,28 @@ fn check_function(
     index: usize,
     step: usize,
     operation: usize,
-    steps: &[StepRecord],
-    operations: &[OperationRecord],
+    f: Function<'_>,
 ) -> Result<(), PlanRefusal>
-    requires { (length steps.now ≤ 10) × ((step + length steps.now < 2 ^ 64) × (operation + length operations.now < 2 ^ 64)) }
-    ensures { told result ≡ function_verdict functions index step operation (record { steps = steps.entry.now; operations = operations.now }) }
+    requires { (length f.steps.now ≤ 10) × ((step + length f.steps.now < 2 ^ 64) × (operation + length f.operations.now < 2 ^ 64)) }
+    ensures { told result ≡ function_verdict functions index step operation (function_of f.entry) }
 {
-    let calls = has_call(operations);
-    check_steps(calls, step, steps)?;
-    owe(is_aligned(calls, steps), PlanReason::Alignment, index)?;
-    check_operations(functions, steps, operation, operations)
+    let calls = has_call(f.operations);
+    check_steps(calls, step, f.steps)?;
+    owe(is_aligned(calls, f.steps), PlanReason::Alignment, index)?;
+    check_operations(functions, f.steps, operation, f.operations)
 }
 
 // 12 to 17 for each function.
-fn check_functions(
-    counts: &[Counts],
-    steps: &[StepRecord],
-    operations: &[OperationRecord],
-) -> Result<(), PlanRefusal>
-    requires { counts_verdict counts.now (length steps.now) (length operations.now) ≡ Ok tt }
-    ensures { told result ≡ functions_verdict (length counts.now) 0 0 0 (functions_in counts.now steps.now operations.now) }
+fn check_functions(plan: &Plan<'_>) -> Result<(), PlanRefusal>
+    requires { counts_verdict plan.now.functions.now (length plan.now.steps.now) (length plan.now.operations.now) ≡ Ok tt }
+    ensures { told result ≡ functions_verdict (length plan.now.functions.now) 0 0 0 (functions_of (text_of plan.now)) }
 {
-    let mut s = 0;
-    let mut o = 0;
-    let mut k = 0;
-    while k < counts.len() {
-        let c = counts[k];
-        let own_steps = part(steps, s, c.steps);
-        let own_operations = part(operations, o, c.operations);
-        check_function(counts.len(), k, s, o, own_steps, own_operations)?;
-        s += usize::from(c.steps);
-        o += usize::from(c.operations);
-        k += 1;
+    let mut step = 0;
+    let mut operation = 0;
+    for (k, f) in plan.functions().enumerate() {
+        check_function(plan.functions.len(), k, step, operation, f)?;
+        step += f.steps.len();
+        operation += f.operations.len();
     }
     Ok(())
 }
@@ -155,7 +132,7 @@ impl Plan<'_> {
     {
         let n = self.functions.len();
         owe(1 <= n && n <= MAX_FUNCTIONS, PlanReason::FunctionCount, 0)?;
-        check_counts(self.functions, self.steps.len(), self.operations.len())?;
-        check_functions(self.functions, self.steps, self.operations)
+        check_counts(self)?;
+        check_functions(self)
     }
 }

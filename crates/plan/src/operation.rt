@@ -4,7 +4,7 @@ ghost use Rattle.plan.specs.Operations.{operation_of};
 
 use crate::text::OperationRecord;
 
-#[derive(Clone, Copy)]
+#[derive(Clone, Copy, PartialEq, Eq, Debug)]
 pub enum Operation {
     Nop,
     // Set a register to 32 signed bits, given as their pattern.
@@ -15,11 +15,11 @@ pub enum Operation {
     Call(u8),
 }
 
-impl Operation {
-    // The operation that a record means; a kind above 3 counts as 3.
-    pub fn of(r: OperationRecord) -> Operation
-        ensures { result ≡ operation_of r }
-    {
+// A kind above 3 counts as 3, which no check accepts.
+impl From<OperationRecord> for Operation {
+    ghost from_gives = { λ r o. o ≡ operation_of r };
+
+    fn from(r: OperationRecord) -> Operation {
         match r.kind {
             0 => Operation::Nop,
             1 => Operation::Set {

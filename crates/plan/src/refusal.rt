@@ -1,13 +1,13 @@
 // Why a description is refused.
 ghost use Rattle.std.specs.Prelude.{◌≡◌};
-ghost use Rattle.plan.specs.Refusals.{reason_number, plan_number, at_index, told, told_reason};
+ghost use Rattle.plan.specs.Refusals.{reason_number, plan_number, plan_fault, fault};
 
 use layout::refusal::Numbered;
 
 #[derive(Clone, Copy, PartialEq, Eq, Debug)]
 pub enum PlanReason {
     // 10: not 1 to 64 functions.
-    FunctionCount,
+    FunctionCount = 10,
     // 11: over 10 steps or 255 operations in a function, or counts that do not match the lists.
     Counts,
     // 12: an unknown kind, a register that cannot be pushed or saved, or a field in use that should not be.
@@ -39,17 +39,7 @@ impl Numbered for PlanReason {
     ghost number = { reason_number };
 
     fn number(&self) -> u16 {
-        match self {
-            PlanReason::FunctionCount => 10,
-            PlanReason::Counts => 11,
-            PlanReason::StepKind => 12,
-            PlanReason::Repeated => 13,
-            PlanReason::Order => 14,
-            PlanReason::Number => 15,
-            PlanReason::Alignment => 16,
-            PlanReason::Operation => 17,
-            PlanReason::Buffer => 18,
-        }
+        *self as u16
     }
 }
 
@@ -61,12 +51,13 @@ impl Numbered for PlanRefusal {
     }
 }
 
-// The same answer, with the index at work added to a refusal.
-pub(crate) fn at_index<T>(r: Result<T, PlanReason>, index: usize) -> Result<T, PlanRefusal>
-    ensures { told result ≡ at_index index (told_reason r) }
-{
-    match r {
-        Ok(x) => Ok(x),
-        Err(reason) => Err(PlanRefusal { reason, index }),
+impl PlanReason {
+    pub(crate) fn at(self, index: usize) -> PlanRefusal
+        ensures { plan_fault result ≡ fault (reason_number self) index }
+    {
+        PlanRefusal {
+            reason: self,
+            index,
+        }
     }
 }

@@ -6,7 +6,9 @@ ghost use Rattle.plan.specs.Steps.{step_of};
 
 use crate::refusal::PlanReason;
 use crate::step::Step;
-use crate::survey::{Sought, any, block_size, pushes};
+use crate::survey::{
+    block_size, has_frame, has_other_than_push, is_frame, is_kept, is_pushed, is_slot_used, pushes,
+};
 use crate::text::{OperationRecord, StepRecord};
 use layout::registers::{is_preserved, is_volatile};
 
@@ -26,10 +28,9 @@ fn is_repeated(before: &[StepRecord], step: Step) -> bool
     ensures { result ≡ repeated (map step_of before.now) step }
 {
     match step {
-        Step::Push(k) => any(before, Sought::Keeps(k.register)),
-        Step::Allocate(_) => false,
-        Step::SetFrame(_) => false,
-        Step::Save(k) => any(before, Sought::Keeps(k.register)),
+        Step::Push(k) => is_kept(before, k.register),
+        Step::Save(k) => is_kept(before, k.register),
+        Step::Allocate(_) | Step::SetFrame(_) => false,
     }
 }
 
@@ -37,11 +38,10 @@ fn is_in_order(before: &[StepRecord], step: Step) -> bool
     ensures { result ≡ in_order (map step_of before.now) step }
 {
     match step {
-        Step::Push(_) => !any(before, Sought::OtherThanPush),
-        Step::Allocate(_) => !any(before, Sought::OtherThanPush),
-        Step::SetFrame(k) => !any(before, Sought::SetsFrame)
+        Step::Push(_) | Step::Allocate(_) => !has_other_than_push(before),
+        Step::SetFrame(k) => !has_frame(before)
             && k.register != 12
-            && any(before, Sought::Pushes(k.register)),
+            && is_pushed(before, k.register),
         Step::Save(_) => true,
     }
 }
@@ -54,7 +54,7 @@ fn has_slot(calls: bool, before: &[StepRecord], offset: u32) -> bool
     offset % 8 == 0
         && block >= 8
         && offset <= block - 8
-        && !any(before, Sought::SavesAt(offset))
+        && !is_slot_used(before, offset)
         && (!calls || offset >= 32)
 }
 
@@ -80,7 +80,7 @@ pub(crate) fn check_step(
     if !is_known(r) {
         return Err(PlanReason::StepKind);
     }
-    let step = Step::of(r);
+    let step = Step::from(r);
     if is_repeated(before, step) {
         return Err(PlanReason::Repeated);
     }
@@ -105,8 +105,7 @@ pub(crate) fn is_aligned(calls: bool, steps: &[StepRecord]) -> bool
 fn is_settable(steps: &[StepRecord], register: u8) -> bool
     ensures { result ≡ settable (map step_of steps.now) register }
 {
-    (is_volatile(register) || any(steps, Sought::Keeps(register)))
-        && !any(steps, Sought::Frames(register))
+    (is_volatile(register) || is_kept(steps, register)) && !is_frame(steps, register)
 }
 
 // Whether an operation of a function with these steps, in a module of so many functions, keeps the rules.
@@ -121,7 +120,7 @@ pub(crate) fn is_operation(functions: usize, steps: &[StepRecord], r: OperationR
             && 16 <= number
             && number <= 65520
             && number % 16 == 0
-            && any(steps, Sought::SetsFrame),
+            && has_frame(steps),
         3 => usize::from(r.first) < functions && number == 0,
         _ => false,
     }

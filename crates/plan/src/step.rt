@@ -1,9 +1,10 @@
 // The steps that records of the four kinds mean.
-ghost use Rattle.std.specs.Prelude.{◌≡◌, ℕ, ◌+◌, ◌≤◌, length};
-ghost use Rattle.layout.specs.Words.{overwritten};
+ghost use Rattle.std.specs.Prelude.{◌≡◌};
+ghost use Rattle.layout.specs.Cursors.{HasRoom, wrote};
 ghost use Rattle.plan.specs.Steps.{step_of, step_instruction, step_code, Sound};
 
 use crate::text::StepRecord;
+use layout::cursor::Cursor;
 use steps::allocate::AllocateStep;
 use steps::kind::StepKind;
 use steps::push::PushStep;
@@ -11,7 +12,7 @@ use steps::save::SaveStep;
 use steps::set_frame::SetFrameStep;
 use x64::instruction::Instruction;
 
-#[derive(Clone, Copy)]
+#[derive(Clone, Copy, PartialEq, Eq, Debug)]
 pub enum Step {
     Push(PushStep),
     Allocate(AllocateStep),
@@ -19,11 +20,11 @@ pub enum Step {
     Save(SaveStep),
 }
 
-impl Step {
-    // The step that a record means; a kind above 3 counts as 3, and a frame offset above 255 as 255, which no check accepts.
-    pub fn of(r: StepRecord) -> Step
-        ensures { result ≡ step_of r }
-    {
+// A kind above 3 counts as 3, and a frame offset above 255 as 255, which no check accepts.
+impl From<StepRecord> for Step {
+    ghost from_gives = { λ r s. s ≡ step_of r };
+
+    fn from(r: StepRecord) -> Step {
         match r.kind {
             0 => Step::Push(PushStep {
                 register: r.register,
@@ -39,7 +40,9 @@ impl Step {
             }),
         }
     }
+}
 
+impl Step {
     pub fn instruction(&self) -> Instruction
         ensures { result ≡ step_instruction self.now }
     {
@@ -51,17 +54,17 @@ impl Step {
         }
     }
 
-    // Writes the unwind code for an instruction that ends at the prologue offset `end`, and answers where the code ends.
-    pub fn write_code(&self, end: u8, out: &mut [u8], at: usize) -> usize
-        requires { (Sound self.now) × (at + length (step_code end self.now) ≤ length out.old) }
-        ensures after { out.new ≡ overwritten out.old at (step_code end self.now) }
-        ensures end { result ≡ at + length (step_code end self.now) }
+    // Writes the unwind code for an instruction that ends at the prologue offset `end`.
+    pub fn write_code(&self, end: u8, out: &mut Cursor)
+        requires sound { Sound self.now }
+        requires room { HasRoom out.old (step_code end self.now) }
+        ensures { out.new ≡ wrote out.old (step_code end self.now) }
     {
         match self {
-            Step::Push(k) => k.write_code(end, out, at),
-            Step::Allocate(k) => k.write_code(end, out, at),
-            Step::SetFrame(k) => k.write_code(end, out, at),
-            Step::Save(k) => k.write_code(end, out, at),
+            Step::Push(k) => k.write_code(end, out),
+            Step::Allocate(k) => k.write_code(end, out),
+            Step::SetFrame(k) => k.write_code(end, out),
+            Step::Save(k) => k.write_code(end, out),
         }
     }
 }

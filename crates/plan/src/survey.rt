@@ -1,89 +1,106 @@
 // What the steps of a function have and lay out together.
-ghost use Rattle.std.specs.Prelude.{◌≡◌, ℕ, ◌≤◌, true, map, length};
-ghost use Rattle.plan.specs.Steps.{step_of, any, pushed, block, frame};
-ghost use Rattle.plan.specs.Sought.{fits};
+ghost use Rattle.std.specs.Prelude.{◌≡◌, ℕ, ◌≤◌, map, length};
+ghost use Rattle.std.specs.List.{list_any};
+ghost use Rattle.plan.specs.Steps.{step_of, keeps, pushes, frames, sets_frame, saves_at, other_than_push, pushed, block, frame};
 
 use crate::step::Step;
 use crate::text::StepRecord;
 use steps::set_frame::SetFrameStep;
 
-// A property of a step that is looked for.
-#[derive(Clone, Copy)]
-pub(crate) enum Sought {
-    // Pushes or saves the register.
-    Keeps(u8),
-    Pushes(u8),
-    // Makes the register the frame register.
-    Frames(u8),
-    SetsFrame,
-    SavesAt(u32),
-    OtherThanPush,
-}
-
-impl Sought {
-    fn fits(self, step: Step) -> bool
-        ensures { result ≡ fits self step }
-    {
-        match (self, step) {
-            (Sought::Keeps(r), Step::Push(k)) => k.register == r,
-            (Sought::Keeps(r), Step::Save(k)) => k.register == r,
-            (Sought::Pushes(r), Step::Push(k)) => k.register == r,
-            (Sought::Frames(r), Step::SetFrame(k)) => k.register == r,
-            (Sought::SetsFrame, Step::SetFrame(_)) => true,
-            (Sought::SavesAt(o), Step::Save(k)) => k.offset == o,
-            (Sought::OtherThanPush, Step::Push(_)) => false,
-            (Sought::OtherThanPush, _) => true,
-            _ => false,
-        }
-    }
-}
-
-// Whether one of the steps has the property.
-pub(crate) fn any(steps: &[StepRecord], sought: Sought) -> bool
-    ensures { result ≡ any (fits sought) (map step_of steps.now) }
+// Whether one of the steps pushes or saves the register.
+pub(crate) fn is_kept(steps: &[StepRecord], register: u8) -> bool
+    ensures { result ≡ list_any (keeps register) (map step_of steps.now) }
 {
-    for s in steps {
-        if sought.fits(Step::of(*s)) {
-            return true;
-        }
-    }
-    false
+    steps.iter().copied().map(Step::from).any(|s| match s {
+        Step::Push(k) => k.register == register,
+        Step::Save(k) => k.register == register,
+        _ => false,
+    })
+}
+
+pub(crate) fn is_pushed(steps: &[StepRecord], register: u8) -> bool
+    ensures { result ≡ list_any (pushes register) (map step_of steps.now) }
+{
+    steps
+        .iter()
+        .copied()
+        .map(Step::from)
+        .any(|s| matches!(s, Step::Push(k) if k.register == register))
+}
+
+pub(crate) fn has_other_than_push(steps: &[StepRecord]) -> bool
+    ensures { result ≡ list_any other_than_push (map step_of steps.now) }
+{
+    steps
+        .iter()
+        .copied()
+        .map(Step::from)
+        .any(|s| !matches!(s, Step::Push(_)))
+}
+
+// Whether one of the steps makes the register the frame register.
+pub(crate) fn is_frame(steps: &[StepRecord], register: u8) -> bool
+    ensures { result ≡ list_any (frames register) (map step_of steps.now) }
+{
+    steps.iter().copied().map(Step::from).any(
+        |s| matches!(s, Step::SetFrame(k) if k.register == register),
+    )
+}
+
+pub(crate) fn has_frame(steps: &[StepRecord]) -> bool
+    ensures { result ≡ list_any sets_frame (map step_of steps.now) }
+{
+    steps
+        .iter()
+        .copied()
+        .map(Step::from)
+        .any(|s| matches!(s, Step::SetFrame(_)))
+}
+
+// Whether one of the steps saves at the offset.
+pub(crate) fn is_slot_used(steps: &[StepRecord], offset: u32) -> bool
+    ensures { result ≡ list_any (saves_at offset) (map step_of steps.now) }
+{
+    steps
+        .iter()
+        .copied()
+        .map(Step::from)
+        .any(|s| matches!(s, Step::Save(k) if k.offset == offset))
 }
 
 // How many registers the steps push.
+#[tactic(auto, using(crate::proofs::Surveys::pushed_counted))]
 pub(crate) fn pushes(steps: &[StepRecord]) -> usize
     ensures count { result ≡ pushed (map step_of steps.now) }
     ensures bound { result ≤ length steps.now }
 {
-    let mut n = 0;
-    for s in steps {
-        if let Step::Push(_) = Step::of(*s) {
-            n += 1;
-        }
-    }
-    n
+    steps
+        .iter()
+        .copied()
+        .map(Step::from)
+        .filter(|s| matches!(s, Step::Push(_)))
+        .count()
 }
 
 // The size of the block that the steps allocate, 0 where they allocate none.
 pub fn block_size(steps: &[StepRecord]) -> u32
     ensures { result ≡ block (map step_of steps.now) }
 {
-    for s in steps {
-        if let Step::Allocate(k) = Step::of(*s) {
-            return k.size;
-        }
-    }
-    0
+    steps
+        .iter()
+        .find_map(|r| match Step::from(*r) {
+            Step::Allocate(k) => Some(k.size),
+            _ => None,
+        })
+        .unwrap_or(0)
 }
 
 // The frame register that the steps set, with its offset.
 pub fn frame_register(steps: &[StepRecord]) -> Option<SetFrameStep>
     ensures { result ≡ frame (map step_of steps.now) }
 {
-    for s in steps {
-        if let Step::SetFrame(k) = Step::of(*s) {
-            return Some(k);
-        }
-    }
-    None
+    steps.iter().find_map(|r| match Step::from(*r) {
+        Step::SetFrame(k) => Some(k),
+        _ => None,
+    })
 }

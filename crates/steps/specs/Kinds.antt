@@ -2,7 +2,8 @@
 use Rattle.std.specs.Prelude.{ℕ, ◌+◌, ◌-◌, ◌*◌, ◌/◌, ◌%◌, ◌^◌, Bool, cond, ◌&&◌, List, [], ◌∷◌, length, nat_le, nat_lt}
 use Rattle.x64.specs.Encodings.{four}
 use Rattle.cpu.specs.Performance.{holds_word, with_register}
-use Rattle.steps.specs.States.{State, value, rsp, word}
+use Rattle.cpu.specs.Processors.{State}
+use Rattle.steps.specs.States.{value, rsp, word}
 
 abbrev pub with_value : State → ℕ → ℕ → State
 with_value s r v = record { registers = with_register s.registers r v; low = s.low; stack = s.stack }

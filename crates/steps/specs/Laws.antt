@@ -1,16 +1,18 @@
 -- Undoing after the effect, with any later state in between.
-use Rattle.std.specs.Prelude.{◌≡◌, ℕ, ◌+◌, ◌-◌, ◌%◌, ◌^◌, ◌<◌, ◌≤◌, Bool, true, false, ◌||◌, ◌≢◌, List, length, take, drop, set, ◌==◌, nat_le, slice_index, slice_set, refl}
+use Rattle.std.specs.Prelude.{◌≡◌, ℕ, ◌+◌, ◌-◌, ◌%◌, ◌^◌, ◌<◌, ◌≤◌, Bool, true, false, ◌||◌, ◌≢◌, List, length, Some, take, drop, set, ◌==◌, nat_le, slice_index, slice_set, refl}
 use Rattle.std.proofs.Common.{sym, ap, ◌∙◌, ⊎_elim, arith}
-use Rattle.std.proofs.lemmas.List.{get_or-set_same, get_or-set_other, length-set, drop_at, take_at, length-take-le, drop-drop}
+use Rattle.std.proofs.lemmas.List.{get_or-set_same, get_or-set_other, length-set, drop-drop}
 use Rattle.std.proofs.lemmas.Bool.{and_parts, leb-true, le-leb, lt-ltb, ne_eqb, cases_eq, cond-true, true≢false, or_parts, eqb-false}
 use Rattle.layout.specs.Registers.{preserved}
 use Rattle.layout.specs.Words.{le_value, le_bytes, le_at, overwritten, with_word}
-use Rattle.layout.proofs.Words.{value_of_bytes, length-le_bytes}
+use Rattle.layout.proofs.Cursors.{length-overwritten}
+use Rattle.layout.proofs.Words.{word_back, length-le_bytes}
 use Rattle.x64.specs.declared.instruction.Instruction.TheVariants.{Push, SubRsp, LeaAtRsp, StoreAtRsp}
 use Rattle.cpu.specs.Effects.{below, moved, signed}
 use Rattle.cpu.specs.Performance.{holds_word, settles}
 use Rattle.steps.specs.Kinds.{undo_push, undo_allocate, undo_frame, undo_save}
-use Rattle.steps.specs.States.{State, value, rsp, word, after, allowed, Sixteen, GivesBack, Later}
+use Rattle.cpu.specs.Processors.{State}
+use Rattle.steps.specs.States.{value, rsp, word, after, allowed, Sixteen, GivesBack, Later}
 
 -- RSP is no preserved register
 not_rsp : (r : ℕ) → preserved r ≡ true → r ≢ 4
@@ -20,15 +22,10 @@ not_rsp r p e = true≢false (sym p ∙ ap preserved e)
 put_back : (stack : List ℕ) (at v : ℕ) → at + 8 ≤ length stack → v < 2 ^ 64 → le_at 8 (with_word 8 stack at v) at ≡ v
 put_back stack at v h small =
     let put : with_word 8 stack at v ≡ overwritten stack at (le_bytes 8 v) = cond-true _ _ _ (le-leb (at + 8) (length stack) h) in
-    let part : take 8 (drop at (overwritten stack at (le_bytes 8 v))) ≡ le_bytes 8 v = ap (take 8) (drop_at (take at stack) _ at (length-take-le at stack (omega arith))) ∙ take_at (le_bytes 8 v) _ 8 (length-le_bytes 8 v) in
-    ap (λ l. le_at 8 l at) put ∙ ap le_value part ∙ value_of_bytes 8 v (omega arith)
-
--- a value put into a register, and the others
-put_same : (xs : List ℕ) (r v : ℕ) → r < length xs → slice_index (slice_set xs r v) r ≡ v
-put_same xs r v h = get_or-set_same xs r v 0 h
-
-put_other : (xs : List ℕ) (r q v : ℕ) → q ≢ r → slice_index (slice_set xs r v) q ≡ slice_index xs q
-put_other xs r q v n = get_or-set_other xs r q v 0 n
+    let new : List ℕ = le_bytes 8 v in
+    let fits : at + 8 ≤ length (overwritten stack at new) = omega (arith, length-le_bytes 8 v, length-overwritten stack at new (omega (arith, length-le_bytes 8 v))) in
+    let back : Some (le_at 8 (overwritten stack at new) at) ≡ Some v = sym (cond-true _ _ _ (le-leb _ _ fits)) ∙ word_back 8 stack at v (omega arith) h in
+    ap (λ l. le_at 8 l at) put ∙ cc
 
 -- a state comes after itself
 pub at_once : (but : ℕ → Bool) (e : State) → length e.registers.integer ≡ 16 → Later but e e
@@ -46,10 +43,10 @@ seen e t later =
 
 module _ (r : ℕ) (s : State) (p : preserved r ≡ true) (l : r < 16) (k : Sixteen s) (room : 8 ≤ rsp s) (ok : allowed (Push r) s ≡ true) where
   pushed_rsp : rsp (after (Push r) s) ≡ rsp s - 8
-  pushed_rsp = put_same s.registers.integer 4 _ (omega (arith, k.0)) ∙ omega (arith, k.1 4)
+  pushed_rsp = get_or-set_same s.registers.integer 4 _ 0 (omega (arith, k.0)) ∙ omega (arith, k.1 4)
 
   spot : rsp (after (Push r) s) ≡ below (rsp s)
-  spot = put_same s.registers.integer 4 _ (omega (arith, k.0))
+  spot = get_or-set_same s.registers.integer 4 _ 0 (omega (arith, k.0))
 
   pushed_word : word (after (Push r) s) (below (rsp s)) ≡ value s r
   pushed_word =
@@ -68,12 +65,12 @@ module _ (r : ℕ) (s : State) (p : preserved r ≡ true) (l : r < 16) (k : Sixt
       let got : word t (rsp t) ≡ value s r = seen e t later ∙ ap (word e) spot ∙ pushed_word in
       let mid : List ℕ = set t.registers.integer r (word t (rsp t)) in
       let four : 4 < length mid = simp length-set (omega arith) in (
-        put_same mid 4 (rsp t + 8) four ∙ omega arith,
+        get_or-set_same mid 4 (rsp t + 8) 0 four ∙ omega arith,
         λ q pq lq.
             let n : q ≢ 4 = not_rsp q pq in
-            put_other mid 4 q (rsp t + 8) n ∙ ⊎_elim
-            (λ (e : q ≡ r). ap (λ x. slice_index mid x) e ∙ put_same t.registers.integer r (word t (rsp t)) (omega arith) ∙ got ∙ ap (value s) (sym e))
-            (λ (d : q ≡ r → ⊥). put_other t.registers.integer r q (word t (rsp t)) d ∙ later.4 q pq (ap (λ b. b || lost q) (ne_eqb q r d) ∙ lq) ∙ put_other s.registers.integer 4 q _ n)
+            get_or-set_other mid 4 q (rsp t + 8) 0 n ∙ ⊎_elim
+            (λ (e : q ≡ r). ap (λ x. slice_index mid x) e ∙ get_or-set_same t.registers.integer r (word t (rsp t)) 0 (omega arith) ∙ got ∙ ap (value s) (sym e))
+            (λ (d : q ≡ r → ⊥). get_or-set_other t.registers.integer r q (word t (rsp t)) 0 d ∙ later.4 q pq (ap (λ b. b || lost q) (ne_eqb q r d) ∙ lq) ∙ get_or-set_other s.registers.integer 4 q _ 0 n)
             (cases_eq q r),
       )
 
@@ -82,16 +79,16 @@ module _ (n : ℕ) (s : State) (small : n < 2 ^ 31) (k : Sixteen s) (room : n �
   lowered_rsp : rsp (after (SubRsp n) s) ≡ rsp s - n
   lowered_rsp =
       let plain : signed n ≡ n = cond-true _ _ _ (lt-ltb n (2 ^ 31) small) in
-      put_same s.registers.integer 4 _ (omega (arith, k.0)) ∙ ap (λ d. (rsp s + (2 ^ 64 - d)) % 2 ^ 64) plain ∙ omega (arith, k.1 4)
+      get_or-set_same s.registers.integer 4 _ 0 (omega (arith, k.0)) ∙ ap (λ d. (rsp s + (2 ^ 64 - d)) % 2 ^ 64) plain ∙ omega (arith, k.1 4)
 
   pub allocate_restores : (t : State) (lost : ℕ → Bool) → Later lost (after (SubRsp n) s) t → GivesBack lost s (undo_allocate n t)
   allocate_restores t lost later =
       let low : rsp t ≡ rsp s - n = later.2 ∙ lowered_rsp in
       let wide : length t.registers.integer ≡ 16 = later.0 in (
-        put_same t.registers.integer 4 (rsp t + n) (omega arith) ∙ omega arith,
+        get_or-set_same t.registers.integer 4 (rsp t + n) 0 (omega arith) ∙ omega arith,
         λ q pq lq.
             let ne : q ≢ 4 = not_rsp q pq in
-            put_other t.registers.integer 4 q (rsp t + n) ne ∙ later.4 q pq lq ∙ put_other s.registers.integer 4 q _ ne,
+            get_or-set_other t.registers.integer 4 q (rsp t + n) 0 ne ∙ later.4 q pq lq ∙ get_or-set_other s.registers.integer 4 q _ 0 ne,
       )
 
 -- a set-frame, undone later
@@ -102,24 +99,24 @@ module _ (f o : ℕ) (s : State) (p : preserved f ≡ true) (l : f < 16) (small 
   frame_value : value (after (LeaAtRsp f o) s) f ≡ rsp s + o
   frame_value =
       let plain : signed o ≡ o = cond-true _ _ _ (lt-ltb o (2 ^ 31) small) in
-      put_other (slice_set s.registers.integer f (moved (rsp s) o)) 4 f (rsp s) (not_rsp f p) ∙ put_same s.registers.integer f (moved (rsp s) o) (omega (arith, k.0)) ∙ ap (λ d. (rsp s + d) % 2 ^ 64) plain ∙ omega arith
+      get_or-set_other (slice_set s.registers.integer f (moved (rsp s) o)) 4 f (rsp s) 0 (not_rsp f p) ∙ get_or-set_same s.registers.integer f (moved (rsp s) o) 0 (omega (arith, k.0)) ∙ ap (λ d. (rsp s + d) % 2 ^ 64) plain ∙ omega arith
 
   framed_rsp : rsp (after (LeaAtRsp f o) s) ≡ rsp s
   framed_rsp =
       let four : 4 < length (slice_set s.registers.integer f (moved (rsp s) o)) = simp length-set (omega (arith, k.0)) in
-      put_same (slice_set s.registers.integer f (moved (rsp s) o)) 4 (rsp s) four
+      get_or-set_same (slice_set s.registers.integer f (moved (rsp s) o)) 4 (rsp s) 0 four
 
   pub frame_restores : (t : State) (lost : ℕ → Bool) → lost f ≡ false → Later lost (after (LeaAtRsp f o) s) t → GivesBack (λ q. (q == f) || lost q) s (undo_frame f o t)
   frame_restores t lost keeps later =
       let wide : length t.registers.integer ≡ 16 = later.0 in
       let at : value t f ≡ rsp s + o = later.4 f p keeps ∙ frame_value in (
-        put_same t.registers.integer 4 (value t f - o) (omega arith) ∙ omega arith,
+        get_or-set_same t.registers.integer 4 (value t f - o) 0 (omega arith) ∙ omega arith,
         λ q pq lq.
             let ne : q ≢ 4 = not_rsp q pq in
             let apart : ((q == f) ≡ false) × (lost q ≡ false) = or_parts (q == f) (lost q) lq in
             let other : q ≢ f = eqb-false q f apart.0 in
-            put_other t.registers.integer 4 q (value t f - o) ne ∙ later.4 q pq apart.1
-            ∙ put_other (slice_set s.registers.integer f (moved (rsp s) o)) 4 q (rsp s) ne ∙ put_other s.registers.integer f q (moved (rsp s) o) other,
+            get_or-set_other t.registers.integer 4 q (value t f - o) 0 ne ∙ later.4 q pq apart.1
+            ∙ get_or-set_other (slice_set s.registers.integer f (moved (rsp s) o)) 4 q (rsp s) 0 ne ∙ get_or-set_other s.registers.integer f q (moved (rsp s) o) 0 other,
       )
 
 -- a later state shows the words above RSP that were there
@@ -138,7 +135,7 @@ module _ (r o : ℕ) (s : State) (p : preserved r ≡ true) (l : r < 16) (small 
       ap (λ d. (rsp s + d) % 2 ^ 64) plain ∙ omega arith
 
   saved_rsp : rsp (after (StoreAtRsp r o) s) ≡ rsp s
-  saved_rsp = put_same s.registers.integer 4 (rsp s) (omega (arith, k.0))
+  saved_rsp = get_or-set_same s.registers.integer 4 (rsp s) 0 (omega (arith, k.0))
 
   areas : (s.low ≤ moved (rsp s) o) × (moved (rsp s) o + 8 ≤ s.low + length s.stack) × (s.low ≤ rsp s)
   areas =
@@ -157,11 +154,11 @@ module _ (r o : ℕ) (s : State) (p : preserved r ≡ true) (l : r < 16) (small 
       let stands : e.low ≤ rsp e = omega (arith, saved_rsp, areas.2) in
       let sum : rsp e + o ≡ moved (rsp s) o = ap (λ x. x + o) saved_rsp ∙ sym there in
       let got : word t (rsp t + o) ≡ value s r = seen_at e t o stands later ∙ ap (word e) sum ∙ saved_word in (
-        put_other t.registers.integer r 4 (word t (rsp t + o)) (λ x. not_rsp r p (sym x)) ∙ later.2 ∙ saved_rsp,
+        get_or-set_other t.registers.integer r 4 (word t (rsp t + o)) 0 (λ x. not_rsp r p (sym x)) ∙ later.2 ∙ saved_rsp,
         λ q pq lq.
             let ne : q ≢ 4 = not_rsp q pq in
             ⊎_elim
-            (λ (x : q ≡ r). ap (λ y. slice_index (slice_set t.registers.integer r (word t (rsp t + o))) y) x ∙ put_same t.registers.integer r (word t (rsp t + o)) (omega arith) ∙ got ∙ ap (value s) (sym x))
-            (λ (d : q ≡ r → ⊥). put_other t.registers.integer r q (word t (rsp t + o)) d ∙ later.4 q pq (ap (λ b. b || lost q) (ne_eqb q r d) ∙ lq) ∙ put_other s.registers.integer 4 q (rsp s) ne)
+            (λ (x : q ≡ r). ap (λ y. slice_index (slice_set t.registers.integer r (word t (rsp t + o))) y) x ∙ get_or-set_same t.registers.integer r (word t (rsp t + o)) 0 (omega arith) ∙ got ∙ ap (value s) (sym x))
+            (λ (d : q ≡ r → ⊥). get_or-set_other t.registers.integer r q (word t (rsp t + o)) 0 d ∙ later.4 q pq (ap (λ b. b || lost q) (ne_eqb q r d) ∙ lq) ∙ get_or-set_other s.registers.integer 4 q (rsp s) 0 ne)
             (cases_eq q r),
       )

@@ -1,18 +1,12 @@
 -- Registers and a stack area, and what it means that a later state gives an earlier one back.
-use Rattle.std.specs.Prelude.{◌≡◌, ℕ, ◌-◌, ◌^◌, ◌<◌, Bool, true, false, List, length, drop}
+use Rattle.std.specs.Prelude.{◌≡◌, ℕ, ◌-◌, ◌^◌, ◌<◌, Bool, true, false, length, drop}
 use Rattle.layout.specs.Registers.{preserved}
 use Rattle.layout.specs.Words.{le_at}
-use Rattle.layout.specs.declared.registers.Registers.{Registers}
 use Rattle.x64.specs.Encodings.{encode}
 use Rattle.x64.specs.declared.instruction.Instruction.{Instruction}
 use Rattle.cpu.specs.Effects.{register_value, intended}
-use Rattle.cpu.specs.Performance.{permitted, registers_after, stack_after}
-
--- a register set, and a stack area from its first address on
-pub record State : Type 0 where
-  pub registers : Registers
-  pub low : ℕ
-  pub stack : List ℕ
+use Rattle.cpu.specs.Performance.{permitted, performed}
+use Rattle.cpu.specs.Processors.{State}
 
 abbrev pub value : State → ℕ → ℕ
 value s r = register_value s.registers r
@@ -26,9 +20,7 @@ word s at = le_at 8 s.stack (at - s.low)
 
 -- the state after an instruction that is not refused
 abbrev pub after : Instruction → State → State
-after i s =
-    let it = intended i (length (encode i)) s.registers in
-    record { registers = registers_after it s.low s.registers s.stack; low = s.low; stack = stack_after it s.low s.stack }
+after i s = performed (intended i (length (encode i)) s.registers) s
 
 abbrev pub allowed : Instruction → State → Bool
 allowed i s = permitted (intended i (length (encode i)) s.registers) s.low (length s.stack)
@@ -46,6 +38,3 @@ abbrev pub Later : (ℕ → Bool) → State → State → Type 0
 Later but e t =
     (length t.registers.integer ≡ 16) × (t.low ≡ e.low) × (rsp t ≡ rsp e) × (drop (rsp e - e.low) t.stack ≡ drop (rsp e - e.low) e.stack)
     × ((r : ℕ) → preserved r ≡ true → but r ≡ false → value t r ≡ value e r)
-
-abbrev pub state : Registers → ℕ → List ℕ → State
-state regs low stack = record { registers = regs; low = low; stack = stack }

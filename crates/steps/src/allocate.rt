@@ -8,12 +8,12 @@ ghost use Rattle.steps.specs.Laws.{allocate_restores, at_once};
 ghost use Rattle.std.proofs.lemmas.List.{length-set};
 
 use crate::kind::StepKind;
-use cpu::perform::OutsideStack;
-use layout::registers::{RSP, Registers};
-use x64::encode::copy_at;
+use cpu::processor::{OutsideStack, Processor};
+use layout::cursor::Cursor;
+use layout::registers::RSP;
 use x64::instruction::Instruction;
 
-#[derive(Clone, Copy)]
+#[derive(Clone, Copy, PartialEq, Eq, Debug)]
 pub struct AllocateStep {
     pub size: u32,
 }
@@ -47,23 +47,24 @@ impl StepKind for AllocateStep {
         Instruction::SubRsp(self.size)
     }
 
-    fn undo(&self, low: u64, registers: &mut Registers, stack: &[u8]) -> Result<(), OutsideStack> {
-        let Some(above) = registers.integer[RSP].checked_add(u64::from(self.size)) else {
-            return Err(OutsideStack);
-        };
-        registers.integer[RSP] = above;
+    fn undo(&self, machine: &mut Processor) -> Result<(), OutsideStack> {
+        let above = machine.registers.integer[RSP]
+            .checked_add(u64::from(self.size))
+            .ok_or(OutsideStack)?;
+        machine.registers.integer[RSP] = above;
         Ok(())
     }
 
-    fn write_code(&self, end: u8, out: &mut [u8], at: usize) -> usize {
+    fn write_code(&self, end: u8, out: &mut Cursor) {
         let words = self.size / 8;
         if self.size <= 128 {
-            return copy_at(out, at, &[end, 16 * (words as u8 - 1) + 2]);
+            return out.put(&[end, 16 * (words as u8 - 1) + 2]);
         }
         if self.size <= 524280 {
-            return copy_at(out, at, &[end, 1, (words % 256) as u8, (words / 256) as u8]);
+            let [w0, w1] = (words as u16).to_le_bytes();
+            return out.put(&[end, 1, w0, w1]);
         }
         let [b0, b1, b2, b3] = self.size.to_le_bytes();
-        copy_at(out, at, &[end, 17, b0, b1, b2, b3])
+        out.put(&[end, 17, b0, b1, b2, b3])
     }
 }

@@ -1,14 +1,14 @@
 // What every kind of step gives: its instruction and so its effect and bytes, its undoing, its unwind code, and the law
 // between effect and undoing.
 ghost use Rattle.std.specs.Prelude.{◌≡◌, ℕ, ◌+◌, ◌≤◌, Bool, true, false, ◌||◌, List, length, is_ok, if◌then◌else◌};
-ghost use Rattle.layout.specs.Words.{overwritten};
+ghost use Rattle.layout.specs.Cursors.{HasRoom, wrote};
 ghost use Rattle.x64.specs.Encodings.{encode};
 ghost use Rattle.x64.specs.declared.instruction.Instruction.{Instruction};
-ghost use Rattle.cpu.specs.Performance.{registers_after, stack_after};
-ghost use Rattle.steps.specs.States.{State, state, after, allowed, GivesBack, Later};
+ghost use Rattle.cpu.specs.Processors.{State, state_of, in_state, with_registers};
+ghost use Rattle.steps.specs.States.{after, allowed, GivesBack, Later};
 
-use cpu::perform::{OutsideStack, execute};
-use layout::registers::Registers;
+use cpu::processor::{OutsideStack, Processor};
+use layout::cursor::Cursor;
 use x64::encode::{emit, encoded_length};
 use x64::instruction::Instruction;
 
@@ -40,38 +40,31 @@ pub trait StepKind: Sized {
         ensures { result ≡ instruction self.now };
 
     // Undoes the step over registers and a stack area, or refuses and changes nothing.
-    fn undo(&self, low: u64, registers: &mut Registers, stack: &[u8]) -> Result<(), OutsideStack>
-        ensures answer { is_ok result ≡ undoable self.now (state registers.old low stack.now) }
-        ensures registers { registers.new ≡ (if is_ok result then (undo self.now (state registers.old low stack.now)).registers else registers.old) };
+    fn undo(&self, machine: &mut Processor) -> Result<(), OutsideStack>
+        ensures answer { is_ok result ≡ undoable self.now (state_of machine.old) }
+        ensures after { machine.new ≡ (if is_ok result then with_registers machine.old (undo self.now (state_of machine.old)).registers else machine.old) };
 
-    // Writes the unwind code at `at`, where there is room, and answers where it ends.
-    fn write_code(&self, end: u8, out: &mut [u8], at: usize) -> usize
-        requires { (sound self.now) × (at + length (code self.now end) ≤ length out.old) }
-        ensures after { out.new ≡ overwritten out.old at (code self.now end) }
-        ensures end { result ≡ at + length (code self.now end) };
+    // Writes the unwind code, for which there is room.
+    fn write_code(&self, end: u8, out: &mut Cursor)
+        requires sound { sound self.now }
+        requires room { HasRoom out.old (code self.now end) }
+        ensures { out.new ≡ wrote out.old (code self.now end) };
 
-    // Writes the instruction at `at`, where there is room, and answers where it ends.
-    fn write(&self, out: &mut [u8], at: usize) -> usize
-        requires { at + length (encode (instruction self.now)) ≤ length out.old }
-        ensures after { out.new ≡ overwritten out.old at (encode (instruction self.now)) }
-        ensures end { result ≡ at + length (encode (instruction self.now)) }
+    // Writes the instruction, for which there is room.
+    fn write(&self, out: &mut Cursor)
+        requires { HasRoom out.old (encode (instruction self.now)) }
+        ensures { out.new ≡ wrote out.old (encode (instruction self.now)) }
     {
-        emit(out, at, self.instruction())
+        emit(out, self.instruction())
     }
 
     // The effect: carries the instruction out, or refuses and changes nothing.
-    fn apply(
-        &self,
-        low: u64,
-        registers: &mut Registers,
-        stack: &mut [u8],
-    ) -> Result<(), OutsideStack>
-        ensures answer { is_ok result ≡ allowed (instruction self.now) (state registers.old low stack.old) }
-        ensures registers { registers.new ≡ (if is_ok result then (after (instruction self.now) (state registers.old low stack.old)).registers else registers.old) }
-        ensures stack { stack.new ≡ (if is_ok result then (after (instruction self.now) (state registers.old low stack.old)).stack else stack.old) }
+    fn apply(&self, machine: &mut Processor) -> Result<(), OutsideStack>
+        ensures answer { is_ok result ≡ allowed (instruction self.now) (state_of machine.old) }
+        ensures after { machine.new ≡ (if is_ok result then in_state machine.old (after (instruction self.now) (state_of machine.old)) else machine.old) }
     {
         let i = self.instruction();
-        execute(i, encoded_length(i) as u64, low, registers, stack)
+        machine.execute(i, encoded_length(i) as u64)
     }
 
     // Whatever happened to the saved registers and to any others since, undoing gives back RSP and the preserved registers.

@@ -9,13 +9,12 @@ ghost use Rattle.steps.specs.Laws.{push_restores, at_once};
 ghost use Rattle.std.proofs.lemmas.List.{length-set};
 
 use crate::kind::StepKind;
-use cpu::perform::{OutsideStack, holds, put};
-use layout::registers::{RSP, Registers};
-use layout::word::u64_at;
-use x64::encode::copy_at;
+use cpu::processor::{OutsideStack, Processor, put};
+use layout::cursor::Cursor;
+use layout::registers::RSP;
 use x64::instruction::Instruction;
 
-#[derive(Clone, Copy)]
+#[derive(Clone, Copy, PartialEq, Eq, Debug)]
 pub struct PushStep {
     pub register: u8,
 }
@@ -49,24 +48,16 @@ impl StepKind for PushStep {
         Instruction::Push(self.register)
     }
 
-    fn undo(&self, low: u64, registers: &mut Registers, stack: &[u8]) -> Result<(), OutsideStack> {
-        let rsp = registers.integer[RSP];
-        let Some(above) = rsp.checked_add(8) else {
-            return Err(OutsideStack);
-        };
-        if !holds(low, stack.len(), rsp) {
-            return Err(OutsideStack);
-        }
-        put(
-            registers,
-            self.register,
-            u64_at(stack, (rsp - low) as usize),
-        );
-        registers.integer[RSP] = above;
+    fn undo(&self, machine: &mut Processor) -> Result<(), OutsideStack> {
+        let rsp = machine.registers.integer[RSP];
+        let above = rsp.checked_add(8).ok_or(OutsideStack)?;
+        let word = machine.word_at(rsp).ok_or(OutsideStack)?;
+        put(&mut machine.registers, self.register, word);
+        machine.registers.integer[RSP] = above;
         Ok(())
     }
 
-    fn write_code(&self, end: u8, out: &mut [u8], at: usize) -> usize {
-        copy_at(out, at, &[end, 16 * self.register])
+    fn write_code(&self, end: u8, out: &mut Cursor) {
+        out.put(&[end, 16 * self.register])
     }
 }

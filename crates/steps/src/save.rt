@@ -9,13 +9,12 @@ ghost use Rattle.steps.specs.Laws.{save_restores, at_once};
 ghost use Rattle.std.proofs.lemmas.List.{length-set};
 
 use crate::kind::StepKind;
-use cpu::perform::{OutsideStack, holds, put};
-use layout::registers::{RSP, Registers};
-use layout::word::u64_at;
-use x64::encode::copy_at;
+use cpu::processor::{OutsideStack, Processor, put};
+use layout::cursor::Cursor;
+use layout::registers::RSP;
 use x64::instruction::Instruction;
 
-#[derive(Clone, Copy)]
+#[derive(Clone, Copy, PartialEq, Eq, Debug)]
 pub struct SaveStep {
     pub register: u8,
     pub offset: u32,
@@ -54,32 +53,21 @@ impl StepKind for SaveStep {
         }
     }
 
-    fn undo(&self, low: u64, registers: &mut Registers, stack: &[u8]) -> Result<(), OutsideStack> {
-        let Some(at) = registers.integer[RSP].checked_add(u64::from(self.offset)) else {
-            return Err(OutsideStack);
-        };
-        if !holds(low, stack.len(), at) {
-            return Err(OutsideStack);
-        }
-        put(registers, self.register, u64_at(stack, (at - low) as usize));
+    fn undo(&self, machine: &mut Processor) -> Result<(), OutsideStack> {
+        let at = machine.registers.integer[RSP]
+            .checked_add(u64::from(self.offset))
+            .ok_or(OutsideStack)?;
+        let word = machine.word_at(at).ok_or(OutsideStack)?;
+        put(&mut machine.registers, self.register, word);
         Ok(())
     }
 
-    fn write_code(&self, end: u8, out: &mut [u8], at: usize) -> usize {
+    fn write_code(&self, end: u8, out: &mut Cursor) {
         if self.offset <= 524280 {
-            let words = self.offset / 8;
-            return copy_at(
-                out,
-                at,
-                &[
-                    end,
-                    16 * self.register + 4,
-                    (words % 256) as u8,
-                    (words / 256) as u8,
-                ],
-            );
+            let [w0, w1] = ((self.offset / 8) as u16).to_le_bytes();
+            return out.put(&[end, 16 * self.register + 4, w0, w1]);
         }
         let [b0, b1, b2, b3] = self.offset.to_le_bytes();
-        copy_at(out, at, &[end, 16 * self.register + 5, b0, b1, b2, b3])
+        out.put(&[end, 16 * self.register + 5, b0, b1, b2, b3])
     }
 }

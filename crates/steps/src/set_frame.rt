@@ -12,12 +12,12 @@ ghost use Rattle.cpu.specs.Effects.{moved};
 
 use crate::kind::StepKind;
 use cpu::intent::value_of;
-use cpu::perform::OutsideStack;
-use layout::registers::{RSP, Registers};
-use x64::encode::copy_at;
+use cpu::processor::{OutsideStack, Processor};
+use layout::cursor::Cursor;
+use layout::registers::RSP;
 use x64::instruction::Instruction;
 
-#[derive(Clone, Copy)]
+#[derive(Clone, Copy, PartialEq, Eq, Debug)]
 pub struct SetFrameStep {
     pub register: u8,
     pub offset: u8,
@@ -57,16 +57,16 @@ impl StepKind for SetFrameStep {
         }
     }
 
-    fn undo(&self, low: u64, registers: &mut Registers, stack: &[u8]) -> Result<(), OutsideStack> {
-        let frame = value_of(registers, self.register);
-        let Some(below) = frame.checked_sub(u64::from(self.offset)) else {
-            return Err(OutsideStack);
-        };
-        registers.integer[RSP] = below;
+    fn undo(&self, machine: &mut Processor) -> Result<(), OutsideStack> {
+        let frame = value_of(&machine.registers, self.register);
+        let below = frame
+            .checked_sub(u64::from(self.offset))
+            .ok_or(OutsideStack)?;
+        machine.registers.integer[RSP] = below;
         Ok(())
     }
 
-    fn write_code(&self, end: u8, out: &mut [u8], at: usize) -> usize {
-        copy_at(out, at, &[end, 3])
+    fn write_code(&self, end: u8, out: &mut Cursor) {
+        out.put(&[end, 3])
     }
 }

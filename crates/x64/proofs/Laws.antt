@@ -1,6 +1,6 @@
 -- The laws between encoding and decoding.
 use Rattle.std.proofs.Common.{◌≡◌, ℕ, ◌+◌, ◌-◌, ◌*◌, ◌/◌, ◌%◌, ◌^◌, ◌<◌, ◌≤◌, Bool, true, false, cond, not, ◌&&◌, eqb, ltb, ◌≢◌, List, [], ◌∷◌, ◌++◌, length, Some, None, Option, sym, refl, ap, ◌∙◌, inr, ⊎_elim, arith}
-use Rattle.std.proofs.lemmas.Bool.{and_parts, ltb-true, le-leb, lt-ltb, le-ltb, ne_eqb, eqb-false, cases_lt, cond-true, cond-false, true≢false}
+use Rattle.std.proofs.lemmas.Bool.{and_parts, ltb-true, le-leb, lt-ltb, le-ltb, ne_eqb, eqb-false, not-true, cases_lt, cond-true, cond-false, true≢false}
 use Rattle.x64.specs.Decodings.{ending, formed, plain, upper_plain, rsp_form, set_form, set_in, at_rsp_form, at_frame_form, decoded}
 use Rattle.x64.specs.Encodings.{high, short, four, spelled, nameable, addressing, encode_as, one_register, on_rsp, at_rsp, at_frame}
 use Rattle.x64.specs.Laws.{DecodesBack, EncodesApart}
@@ -9,16 +9,12 @@ use Rattle.x64.specs.declared.instruction.Instruction.TheVariants.{Push, Pop, Su
 use Rattle.x64.proofs.Back.{displacement, high_le, halves, rsp_access, frame_access}
 use Rattle.x64.proofs.Decoding.{by_call, by_upper, by_plain, by_rex}
 
-unnot : (b : Bool) → not b ≡ true → b ≡ false
-unnot true e = sym e
-unnot false e = refl
-
 -- what a register that may be named is
 named : (r : ℕ) → nameable r ≡ true → (r < 16) × (eqb r 4 ≡ false)
-named r w = let p = and_parts (ltb r 16) (not (eqb r 4)) w in (ltb-true r 16 p.0, unnot (eqb r 4) p.1)
+named r w = let p = and_parts (ltb r 16) (not (eqb r 4)) w in (ltb-true r 16 p.0, not-true (eqb r 4) p.1)
 
 based : (q : ℕ) → addressing q ≡ true → (q < 16) × (q % 8 ≢ 4)
-based q w = let p = and_parts (ltb q 16) (not (eqb (q % 8) 4)) w in (ltb-true q 16 p.0, eqb-false (q % 8) 4 (unnot (eqb (q % 8) 4) p.1))
+based q w = let p = and_parts (ltb q 16) (not (eqb (q % 8) 4)) w in (ltb-true q 16 p.0, eqb-false (q % 8) 4 (not-true (eqb (q % 8) 4) p.1))
 
 plain_push : (b : ℕ) → 80 ≤ b → b < 88 → b ≢ 84 → plain b ≡ Some (Push (b - 80))
 plain_push b l h n = rw (ne_eqb b 144 (λ e. absurd (omega arith)), ne_eqb b 195 (λ e. absurd (omega arith)), le-leb 80 b l, lt-ltb b 88 h, ne_eqb b 84 n)

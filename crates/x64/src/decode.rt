@@ -1,18 +1,26 @@
 // The instruction that bytes begin with, in either displacement size.
-ghost use Rattle.std.specs.Prelude.{◌≡◌, ℕ, ◌<◌, Bool, true, List, ◌++◌, length, Some, slice_index};
-ghost use Rattle.x64.specs.Decodings.{displaced, plain, upper_plain, rsp_form, set_form, at_rsp_form, at_frame_form, memory_in, set_in, rexed, formed, ending, decoded};
+ghost use Rattle.std.specs.Prelude.{◌≡◌, Option, ℕ, ◌<◌, Bool, true, List, ◌++◌, length, Some, slice_index};
+ghost use Rattle.x64.specs.Decodings.{displaced, plain, upper_plain, rsp_form, set_form, at_rsp_form, at_frame_form, memory_in, set_in, rexed, formed, extended, decoded};
 ghost use Rattle.x64.specs.Encodings.{encode_as, well_formed};
 ghost use Rattle.x64.specs.Laws.{Form};
-ghost use Rattle.x64.specs.declared.instruction.Instruction.TheVariants.{Call};
+ghost use Rattle.x64.specs.declared.instruction.Instruction.{Instruction};
 
 use crate::instruction::Instruction;
-use layout::word::u32_at;
+use layout::word::word_at;
 
 // The byte at `at`, and 0 past the end.
 fn byte_at(bytes: &[u8], at: usize) -> u8
     ensures { result ≡ slice_index bytes.now at }
 {
-    if at < bytes.len() { bytes[at] } else { 0 }
+    bytes.get(at).copied().unwrap_or(0)
+}
+
+// A signed byte as 32 signed bits.
+fn extend(b: u8) -> u32
+    ensures { result ≡ extended b }
+{
+    let n = u32::from(b);
+    if b < 128 { n } else { n + 0xffff_ff00 }
 }
 
 // The displacement at `at`, of four bytes or one, and where it ends.
@@ -21,20 +29,25 @@ fn displacement_at(wide: bool, bytes: &[u8], at: usize) -> Option<(u32, usize)>
     ensures { result ≡ displaced wide bytes.now at }
 {
     if wide {
-        if bytes.len() < at + 4 {
-            return None;
-        }
-        return Some((u32_at(bytes, at), at + 4));
-    }
-    if bytes.len() <= at {
-        return None;
-    }
-    let b = u32::from(bytes[at]);
-    if b < 128 {
-        Some((b, at + 1))
+        Some((word_at(bytes, at)?, at + 4))
     } else {
-        Some((b + 0xffff_ff00, at + 1))
+        Some((extend(*bytes.get(at)?), at + 1))
     }
+}
+
+// The instruction that `form` makes of the displacement at `at`, and where it ends.
+fn with_displacement<F: FnOnce(u32) -> Option<Instruction>>(
+    wide: bool,
+    bytes: &[u8],
+    at: usize,
+    form: F,
+) -> Option<(Instruction, usize)>
+    requires place { at < 8 }
+    requires form { F.IsAlwaysCallable form }
+    ensures { (f : ℕ → Option Instruction) → ((d : ℕ) (i : Option Instruction) → F.post form d i → i ≡ f d) → result ≡ formed (displaced wide bytes.now at) f }
+{
+    let (d, end) = displacement_at(wide, bytes, at)?;
+    Some((form(d)?, end))
 }
 
 fn plain_form(b: u8) -> Option<Instruction>
@@ -121,26 +134,13 @@ fn form_at_frame(op: u8, register: u8, frame: u8, displacement: u32) -> Option<I
     }
 }
 
-fn decode_at_rsp(op: u8, register: u8, wide: bool, bytes: &[u8]) -> Option<(Instruction, usize)>
-    ensures { result ≡ formed (displaced wide bytes.now 4) (at_rsp_form op register) }
+fn form_set(register: u8, value: u32) -> Option<Instruction>
+    ensures { result ≡ set_form register value }
 {
-    let (d, end) = displacement_at(wide, bytes, 4)?;
-    let i = form_at_rsp(op, register, d)?;
-    Some((i, end))
-}
-
-fn decode_at_frame(
-    op: u8,
-    register: u8,
-    frame: u8,
-    wide: bool,
-    bytes: &[u8],
-) -> Option<(Instruction, usize)>
-    ensures { result ≡ formed (displaced wide bytes.now 3) (at_frame_form op register frame) }
-{
-    let (d, end) = displacement_at(wide, bytes, 3)?;
-    let i = form_at_frame(op, register, frame, d)?;
-    Some((i, end))
+    if register == 4 {
+        return None;
+    }
+    Some(Instruction::Set { register, value })
 }
 
 // An access at RSP or at a frame register.
@@ -155,12 +155,13 @@ fn decode_memory(rex: u8, op: u8, bytes: &[u8]) -> Option<(Instruction, usize)>
     }
     let wide = m / 64 == 2;
     if m % 8 != 4 {
-        return decode_at_frame(op, register, m % 8 + 8 * (rex % 2), wide, bytes);
+        let frame = m % 8 + 8 * (rex % 2);
+        return with_displacement(wide, bytes, 3, |d| form_at_frame(op, register, frame, d));
     }
     if rex % 2 != 0 || byte_at(bytes, 3) != 0x24 {
         return None;
     }
-    decode_at_rsp(op, register, wide, bytes)
+    with_displacement(wide, bytes, 4, |d| form_at_rsp(op, register, d))
 }
 
 fn decode_set(rex: u8, bytes: &[u8]) -> Option<(Instruction, usize)>
@@ -172,11 +173,7 @@ fn decode_set(rex: u8, bytes: &[u8]) -> Option<(Instruction, usize)>
         return None;
     }
     let register = m - 192 + 8 * rex;
-    let (value, end) = displacement_at(true, bytes, 3)?;
-    if register == 4 {
-        return None;
-    }
-    Some((Instruction::Set { register, value }, end))
+    with_displacement(true, bytes, 3, |d| form_set(register, d))
 }
 
 // After 48 to 4F, of which `rex` is the low three bits.
@@ -192,27 +189,13 @@ fn decode_rex(rex: u8, bytes: &[u8]) -> Option<(Instruction, usize)>
         if rex != 0 {
             return None;
         }
-        let (d, end) = displacement_at(op == 0x81, bytes, 3)?;
-        let i = form_on_rsp(byte_at(bytes, 2), d)?;
-        return Some((i, end));
+        let group = byte_at(bytes, 2);
+        return with_displacement(op == 0x81, bytes, 3, |d| form_on_rsp(group, d));
     }
     if op == 0xc7 {
         return decode_set(rex, bytes);
     }
     decode_memory(rex, op, bytes)
-}
-
-fn decode_call(bytes: &[u8]) -> Option<(Instruction, usize)>
-    ensures { result ≡ formed (displaced true bytes.now 1) (λ d. Some (Call d)) }
-{
-    let (d, end) = displacement_at(true, bytes, 1)?;
-    Some((Instruction::Call(d), end))
-}
-
-fn with_length(i: Option<Instruction>, n: usize) -> Option<(Instruction, usize)>
-    ensures { result ≡ ending i n }
-{
-    Some((i?, n))
 }
 
 // The instruction that `bytes` begin with, and how many bytes it has; none where they begin no instruction,
@@ -221,15 +204,10 @@ pub fn decode(bytes: &[u8]) -> Option<(Instruction, usize)>
     ensures value { result ≡ decoded bytes.now }
     ensures back { (i : Instruction) (wide : Bool) (rest : List ℕ) → well_formed i ≡ true → Form wide i → bytes.now ≡ encode_as wide i ++ rest → result ≡ Some (i, length (encode_as wide i)) }
 {
-    let b = byte_at(bytes, 0);
-    if b == 0xe8 {
-        return decode_call(bytes);
+    match byte_at(bytes, 0) {
+        0xe8 => with_displacement(true, bytes, 1, |d| Some(Instruction::Call(d))),
+        0x41 => upper_form(byte_at(bytes, 1)).map(|i| (i, 2)),
+        b @ 0x48..=0x4f => decode_rex(b - 0x48, bytes),
+        b => plain_form(b).map(|i| (i, 1)),
     }
-    if b == 0x41 {
-        return with_length(upper_form(byte_at(bytes, 1)), 2);
-    }
-    if b < 0x48 || b >= 0x50 {
-        return with_length(plain_form(b), 1);
-    }
-    decode_rex(b - 0x48, bytes)
 }

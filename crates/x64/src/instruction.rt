@@ -1,6 +1,6 @@
 // The instruction set. Registers are by number; displacements and immediates are 32 signed bits as their pattern.
 
-#[derive(Clone, Copy)]
+#[derive(Clone, Copy, PartialEq, Eq, Debug)]
 pub enum Instruction {
     Push(u8),
     Pop(u8),

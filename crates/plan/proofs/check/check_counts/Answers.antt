@@ -1,36 +1,27 @@
-use Rattle.std.proofs.Common.{◌&&◌, eqb, List, length, get_or, sym, ap, ◌∙◌, arith}
-use Rattle.plan.specs.declared.text.Counts.{Counts}
-use Rattle.std.proofs.lemmas.Result.{err_from_is_err_and}
-use Rattle.plan.specs.Verdicts.{next, owed, steps_counted, operations_counted}
-use Rattle.plan.proofs.Passes.{limits_one, limits_within, steps_more, operations_more, stopped, passed, totals}
+use Rattle.std.proofs.Common.{◌≡◌, ◌&&◌, not, eqb, length, zero-add, Err, sym, ap, ◌∙◌, rules}
+use Rattle.std.specs.List.{position}
+use Rattle.std.proofs.lemmas.Iterator.{YieldsList-from_slice}
+use Rattle.std.proofs.lemmas.Iterator.Search.{position_from_yields_List}
+use borrow.Author.Tests.{tests}
+use Rattle.plan.proofs.Passes.{first_fault, limits_first}
+use Rattle.plan.specs.Refusals.{fault}
+use Rattle.plan.specs.Verdicts.{next, owed, within, steps_counted, operations_counted}
 use Rattle.plan.proofs.check.check_counts.Goals as goal
 
-pub returns-in_err-owe : goal.returns-in_err-owe
-returns-in_err-owe c =
-    let p = err_from_is_err_and c.from_residual.result c.from_residual.ensures.1 in
-    let said = c.in_err-owe.ensures ∙ ap (λ b. owed b 11 c.loop-k.k) c.is_within.ensures in
-    let cs = c.args.counts.now in
-    let first = c.loop-k.invariant.0 ∙ stopped _ _ (limits_one _ _ _ c.loop-k-test.true) (sym said) in
-    rw (p.1, p.2) (sym (ap (λ v. next v (owed (eqb (steps_counted cs) c.args.steps && eqb (operations_counted cs) c.args.operations) 11 (length cs))) first))
-
-pub loop-k-preserved : goal.loop-k-preserved
-loop-k-preserved c =
-    let said = c.in_ok-owe.ensures ∙ ap (λ b. owed b 11 c.loop-k.k) c.is_within.ensures in
-    let t = c.loop-k-test.true in
-    let none : Counts = record { steps = 0; operations = 0 } in
-    let cs : List Counts = c.args.counts.now in
-    let within = limits_within (get_or cs c.loop-k.k none) c.loop-k.k (sym said) in
-    let more = steps_more cs c.loop-k.k none t in
-    let others = operations_more cs c.loop-k.k none t in
-    let inv = c.loop-k.invariant in (
-      c.loop-k.invariant.0 ∙ passed _ (limits_one _ _ _ t) (sym said),
-      omega (arith, inv.1, more, c.from-s.ensures),
-      omega (arith, inv.2, others, c.from-o.ensures),
-      omega (arith, inv.3, within.0, c.from-s.ensures),
-      omega (arith, inv.4, within.1, c.from-o.ensures),
-    )
+pub returns-in-Some : goal.returns-in-Some
+returns-in-Some c =
+    let p = c.args.plan.now in
+    let cs = p.functions.now in
+    let found : c.position.result ≡ position (λ x. not (within x)) cs = position_from_yields_List _ _ _ c.position.result c.position.ensures.ran (YieldsList-from_slice cs cc) (λ x b q k. search (rules, tests)) in
+    let all = owed (eqb (steps_counted cs) (length p.steps.now) && eqb (operations_counted cs) (length p.operations.now)) 11 (length cs) in
+    let found_at : first_fault 11 0 c.position.result ≡ Err (fault 11 c.in-Some.k) = ap (first_fault 11 0) c.in-Some.is ∙ ap (λ j. Err (fault 11 j)) (zero-add c.in-Some.k) in
+    ap Err c.at.ensures ∙ sym (ap (λ v. next v all) (limits_first cs ∙ ap (first_fault 11 0) (sym found) ∙ found_at))
 
 pub returns : goal.returns
 returns c =
-    let inv = c.loop-k.invariant in
-    c.owe-2.ensures ∙ ap (λ b. owed b 11 (length c.args.counts.now)) c.are_all.ensures ∙ sym (totals _ _ _ _ _ _ c.loop-k-test.false inv.0 inv.1 inv.2)
+    let p = c.args.plan.now in
+    let cs = p.functions.now in
+    let found : c.position.result ≡ position (λ x. not (within x)) cs = position_from_yields_List _ _ _ c.position.result c.position.ensures.ran (YieldsList-from_slice cs cc) (λ x b q k. search (rules, tests)) in
+    let all = owed (eqb (steps_counted cs) (length p.steps.now) && eqb (operations_counted cs) (length p.operations.now)) 11 (length cs) in
+    let good = limits_first cs ∙ ap (first_fault 11 0) (sym found ∙ c.in_default.is) in
+    c.owe.ensures ∙ ap (λ b. owed b 11 (length cs)) c.are_all_counted.ensures ∙ sym (ap (λ v. next v all) good)

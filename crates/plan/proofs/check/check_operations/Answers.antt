@@ -1,24 +1,21 @@
-use Rattle.std.proofs.Common.{◌+◌, map, sym, ap, ◌∙◌, arith}
-use Rattle.std.proofs.lemmas.List.{at_drop_all}
-use Rattle.std.proofs.lemmas.Result.{err_from_is_err_and}
+use Rattle.std.proofs.Common.{◌≡◌, not, map, Err, sym, ap, ◌∙◌, rules}
+use Rattle.std.specs.List.{position}
+use Rattle.std.proofs.lemmas.Iterator.{YieldsList-from_slice}
+use Rattle.std.proofs.lemmas.Iterator.Search.{position_from_yields_List}
+use borrow.Author.Tests.{tests}
+use Rattle.plan.proofs.Passes.{first_fault, operations_first}
+use Rattle.plan.specs.Rules.{operation_good}
 use Rattle.plan.specs.Steps.{step_of}
-use Rattle.plan.specs.Verdicts.{operations_verdict, owed}
-use Rattle.plan.proofs.Passes.{operations_one, stopped, passed}
 use Rattle.plan.proofs.check.check_operations.Goals as goal
 
-pub returns-in_err-owe : goal.returns-in_err-owe
-returns-in_err-owe c =
-    let p = err_from_is_err_and c.from_residual.result c.from_residual.ensures.1 in
-    let said = c.in_err-owe.ensures ∙ ap (λ b. owed b 17 (c.args.index + c.loop-i.i)) c.is_operation-good.ensures in
-    rw (p.1, p.2) (sym (c.loop-i.invariant.0 ∙ stopped _ _ (operations_one _ _ _ _ _ _ c.loop-i-test.true) (sym said)))
+pub returns-in-None : goal.returns-in-None
+returns-in-None c =
+    let ss = map step_of c.args.steps.now in
+    let found : c.position.result ≡ position (λ o. not (operation_good c.args.functions ss o)) c.args.operations.now = position_from_yields_List _ _ _ c.position.result c.position.ensures.ran (YieldsList-from_slice c.args.operations.now cc) (λ x b q k. search (rules, tests)) in
+    sym (operations_first _ _ _ _ ∙ ap (first_fault 17 c.args.index) (sym found ∙ c.in-None.is))
 
-pub loop-i-preserved : goal.loop-i-preserved
-loop-i-preserved c =
-    let said = c.in_ok-owe.ensures ∙ ap (λ b. owed b 17 (c.args.index + c.loop-i.i)) c.is_operation-good.ensures in
-    (c.loop-i.invariant.0 ∙ passed _ (operations_one _ _ _ _ _ _ c.loop-i-test.true) (sym said), omega (arith, c.loop-i-test.true))
-
-pub returns : goal.returns
-unfolding operations_verdict
-returns c =
-    let i = c.loop-i.i in
-    sym (c.loop-i.invariant.0 ∙ at_drop_all (operations_verdict c.args.functions (map step_of c.args.steps.now) (c.args.index + i)) c.args.operations.now i c.loop-i-test.false)
+pub returns-in-Some : goal.returns-in-Some
+returns-in-Some c =
+    let ss = map step_of c.args.steps.now in
+    let found : c.position.result ≡ position (λ o. not (operation_good c.args.functions ss o)) c.args.operations.now = position_from_yields_List _ _ _ c.position.result c.position.ensures.ran (YieldsList-from_slice c.args.operations.now cc) (λ x b q k. search (rules, tests)) in
+    ap Err c.at.ensures ∙ sym (operations_first _ _ _ _ ∙ ap (first_fault 17 c.args.index) (sym found ∙ c.in-Some.is))

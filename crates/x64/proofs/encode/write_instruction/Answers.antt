@@ -1,9 +1,8 @@
-use Rattle.std.proofs.Common.{rules}
 use Rattle.x64.proofs.Laws.{encodes_apart}
 use Rattle.x64.proofs.encode.write_instruction.Goals as goal
 
-pub returns-then-out-encoded_length : goal.returns-then-out-encoded_length
-returns-then-out-encoded_length c = record { answer = search rules; after = search rules; apart = encodes_apart }
+pub returns-then-out-encoded_length-clause-apart : goal.returns-then-out-encoded_length-clause-apart
+returns-then-out-encoded_length-clause-apart c = encodes_apart
 
-pub returns : goal.returns
-returns c = record { answer = search rules; after = search rules; apart = encodes_apart }
+pub returns-clause-apart : goal.returns-clause-apart
+returns-clause-apart c = encodes_apart
