@@ -60,8 +60,8 @@ abbrev pub stack_after : Intent → ℕ → List ℕ → List ℕ
 stack_after it low stack = stored it.access low stack
 
 -- the word at an address of the area, if it lies there
-abbrev pub area_word : State → ℕ → Option ℕ
-area_word s at = cond (holds_word s.low (length s.stack) at) (Some (le_at 8 s.stack (at - s.low))) None
+abbrev pub area_word : ℕ → List ℕ → ℕ → Option ℕ
+area_word low stack at = cond (holds_word low (length stack) at) (Some (le_at 8 stack (at - low))) None
 
 -- the state after an intent that is not refused
 abbrev pub performed : Intent → State → State

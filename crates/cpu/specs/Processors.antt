@@ -1,6 +1,7 @@
 -- A processor as a value, and as a place that keeps its area.
 use Rattle.std.specs.Prelude.{ℕ, List}
 use Rattle.layout.specs.declared.registers.Registers.{Registers}
+use Rattle.cpu.specs.declared.processor.Area.{Area}
 use Rattle.cpu.specs.declared.processor.Processor.{Processor}
 
 -- a register set, and a stack area from its first address on
@@ -19,3 +20,7 @@ in_state p s = record { registers = s.registers; low = s.low; stack = record { r
 -- the same but for its registers
 abbrev pub with_registers : Processor → Registers → Processor
 with_registers p regs = record { registers = regs; low = p.low; stack = p.stack }
+
+-- registers over an area that is only read
+abbrev pub state : Registers → Area → State
+state regs area = record { registers = regs; low = area.low; stack = area.bytes.now }

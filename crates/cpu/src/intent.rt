@@ -87,12 +87,7 @@ impl Intent {
 fn extend(d: u32) -> u64
     ensures { result ≡ signed d }
 {
-    let n = u64::from(d);
-    if n < 0x8000_0000 {
-        n
-    } else {
-        n + 0xffff_ffff_0000_0000
-    }
+    i64::from(d.cast_signed()).cast_unsigned()
 }
 
 fn ahead(from: u64, d: u32) -> u64

@@ -36,6 +36,58 @@ pub fn put(registers: &mut Registers, register: u8, value: u64)
     }
 }
 
+// A stack area that is only read: bytes of which the first has the address `low`.
+#[derive(Clone, Copy)]
+pub struct Area<'a> {
+    pub low: u64,
+    pub bytes: &'a [u8],
+}
+
+impl<'a> Area<'a> {
+    // Whether RSP may stand here: from the area's first address up to its end.
+    fn may_stand(self, rsp: u64) -> bool
+        ensures { result ≡ settles self.entry.low (length self.entry.bytes.now) rsp }
+    {
+        self.low <= rsp && rsp - self.low <= self.bytes.len() as u64
+    }
+
+    // Whether the eight bytes at an address lie in the area.
+    pub fn holds(self, at: u64) -> bool
+        ensures { result ≡ holds_word self.entry.low (length self.entry.bytes.now) at }
+    {
+        let size = self.bytes.len() as u64;
+        self.low <= at && size >= 8 && at - self.low <= size - 8
+    }
+
+    fn may_access(self, access: Option<Access>) -> bool
+        ensures { result ≡ accessible access self.entry.low (length self.entry.bytes.now) }
+    {
+        // By a match: a closure that takes `self` along would need a clause of its own.
+        match access {
+            Some(a) => self.holds(a.at()),
+            None => true,
+        }
+    }
+
+    // The word at an address, which lies in the area.
+    fn word(self, at: u64) -> u64
+        requires { holds_word self.low (length self.bytes.now) at ≡ true }
+        ensures { result ≡ le_at 8 self.entry.bytes.now (at - self.entry.low) }
+    {
+        le_at(self.bytes, (at - self.low) as usize)
+    }
+
+    // The word at an address of the area, or none where it does not lie there.
+    pub fn word_at(self, at: u64) -> Option<u64>
+        ensures { result ≡ area_word self.entry.low self.entry.bytes.now at }
+    {
+        if !self.holds(at) {
+            return None;
+        }
+        Some(self.word(at))
+    }
+}
+
 // A register set, and a stack area in the caller's bytes, whose first byte has the address `low`.
 #[derive(Drop)]
 pub struct Processor<'a> {
@@ -45,46 +97,14 @@ pub struct Processor<'a> {
 }
 
 impl<'a> Processor<'a> {
-    // Whether RSP may stand here: from the area's first address up to its end.
-    fn may_stand(&self, rsp: u64) -> bool
-        ensures { result ≡ settles self.now.low (length self.now.stack.now) rsp }
+    // The stack area, to be read.
+    pub fn area(&self) -> Area<'_>
+        ensures low { result.low ≡ self.now.low }
+        ensures bytes { result.bytes.now ≡ self.now.stack.now }
     {
-        self.low <= rsp && rsp - self.low <= self.stack.len() as u64
-    }
-
-    // Whether the eight bytes at an address lie in the area.
-    pub fn holds(&self, at: u64) -> bool
-        ensures { result ≡ holds_word self.now.low (length self.now.stack.now) at }
-    {
-        let size = self.stack.len() as u64;
-        self.low <= at && size >= 8 && at - self.low <= size - 8
-    }
-
-    // The word at an address, which lies in the area.
-    fn word(&self, at: u64) -> u64
-        requires { holds_word self.now.low (length self.now.stack.now) at ≡ true }
-        ensures { result ≡ le_at 8 self.now.stack.now (at - self.now.low) }
-    {
-        le_at(self.stack, (at - self.low) as usize)
-    }
-
-    // The word at an address of the area, or none where it does not lie there.
-    pub fn word_at(&self, at: u64) -> Option<u64>
-        ensures { result ≡ area_word (state_of self.now) at }
-    {
-        if !self.holds(at) {
-            return None;
-        }
-        Some(self.word(at))
-    }
-
-    fn may_access(&self, access: Option<Access>) -> bool
-        ensures { result ≡ accessible access self.now.low (length self.now.stack.now) }
-    {
-        // By a match: a closure that takes `self` along would need a clause of its own.
-        match access {
-            Some(a) => self.holds(a.at()),
-            None => true,
+        Area {
+            low: self.low,
+            bytes: self.stack,
         }
     }
 
@@ -104,10 +124,10 @@ impl<'a> Processor<'a> {
         self.registers.rip = Address(intent.rip);
         match intent.access {
             Some(Access::Load { at, register }) => {
-                let word = self.word(at);
+                let word = self.area().word(at);
                 put(&mut self.registers, register, word)
             }
-            Some(Access::Return { at }) => self.registers.rip = Address(self.word(at)),
+            Some(Access::Return { at }) => self.registers.rip = Address(self.area().word(at)),
             Some(Access::Store { .. }) | None => {}
         }
     }
@@ -126,7 +146,8 @@ impl<'a> Processor<'a> {
         ensures answer { result_map_both (λ x. x) stack_number result ≡ (if permitted intent self.old.low (length self.old.stack.now) then Ok tt else Err 62) }
         ensures after { self.new ≡ (if is_ok result then in_state self.old (performed intent (state_of self.old)) else self.old) }
     {
-        if !self.may_access(intent.access) || !self.may_stand(intent.rsp) {
+        let area = self.area();
+        if !area.may_access(intent.access) || !area.may_stand(intent.rsp) {
             return Err(OutsideStack);
         }
         self.make_change(intent.change);

@@ -8,9 +8,9 @@ ghost use Rattle.steps.specs.Laws.{allocate_restores, at_once};
 ghost use Rattle.std.proofs.lemmas.List.{length-set};
 
 use crate::kind::StepKind;
-use cpu::processor::{OutsideStack, Processor};
+use cpu::processor::{Area, OutsideStack};
 use layout::cursor::Cursor;
-use layout::registers::RSP;
+use layout::registers::{RSP, Registers};
 use x64::instruction::Instruction;
 
 #[derive(Clone, Copy, PartialEq, Eq, Debug)]
@@ -47,11 +47,11 @@ impl StepKind for AllocateStep {
         Instruction::SubRsp(self.size)
     }
 
-    fn undo(&self, machine: &mut Processor) -> Result<(), OutsideStack> {
-        let above = machine.registers.integer[RSP]
+    fn undo(&self, registers: &mut Registers, area: Area<'_>) -> Result<(), OutsideStack> {
+        let above = registers.integer[RSP]
             .checked_add(u64::from(self.size))
             .ok_or(OutsideStack)?;
-        machine.registers.integer[RSP] = above;
+        registers.integer[RSP] = above;
         Ok(())
     }
 

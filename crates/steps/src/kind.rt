@@ -4,11 +4,12 @@ ghost use Rattle.std.specs.Prelude.{◌≡◌, ℕ, ◌+◌, ◌≤◌, Bool, tr
 ghost use Rattle.layout.specs.Cursors.{HasRoom, wrote};
 ghost use Rattle.x64.specs.Encodings.{encode};
 ghost use Rattle.x64.specs.declared.instruction.Instruction.{Instruction};
-ghost use Rattle.cpu.specs.Processors.{State, state_of, in_state, with_registers};
+ghost use Rattle.cpu.specs.Processors.{State, state, state_of, in_state};
 ghost use Rattle.steps.specs.States.{after, allowed, GivesBack, Later};
 
-use cpu::processor::{OutsideStack, Processor};
+use cpu::processor::{Area, OutsideStack, Processor};
 use layout::cursor::Cursor;
+use layout::registers::Registers;
 use x64::encode::{emit, encoded_length};
 use x64::instruction::Instruction;
 
@@ -40,9 +41,9 @@ pub trait StepKind: Sized {
         ensures { result ≡ instruction self.now };
 
     // Undoes the step over registers and a stack area, or refuses and changes nothing.
-    fn undo(&self, machine: &mut Processor) -> Result<(), OutsideStack>
-        ensures answer { is_ok result ≡ undoable self.now (state_of machine.old) }
-        ensures after { machine.new ≡ (if is_ok result then with_registers machine.old (undo self.now (state_of machine.old)).registers else machine.old) };
+    fn undo(&self, registers: &mut Registers, area: Area<'_>) -> Result<(), OutsideStack>
+        ensures answer { is_ok result ≡ undoable self.now (state registers.old area.entry) }
+        ensures registers { registers.new ≡ (if is_ok result then (undo self.now (state registers.old area.entry)).registers else registers.old) };
 
     // Writes the unwind code, for which there is room.
     fn write_code(&self, end: u8, out: &mut Cursor)

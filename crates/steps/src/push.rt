@@ -9,9 +9,9 @@ ghost use Rattle.steps.specs.Laws.{push_restores, at_once};
 ghost use Rattle.std.proofs.lemmas.List.{length-set};
 
 use crate::kind::StepKind;
-use cpu::processor::{OutsideStack, Processor, put};
+use cpu::processor::{Area, OutsideStack, put};
 use layout::cursor::Cursor;
-use layout::registers::RSP;
+use layout::registers::{RSP, Registers};
 use x64::instruction::Instruction;
 
 #[derive(Clone, Copy, PartialEq, Eq, Debug)]
@@ -48,12 +48,12 @@ impl StepKind for PushStep {
         Instruction::Push(self.register)
     }
 
-    fn undo(&self, machine: &mut Processor) -> Result<(), OutsideStack> {
-        let rsp = machine.registers.integer[RSP];
+    fn undo(&self, registers: &mut Registers, area: Area<'_>) -> Result<(), OutsideStack> {
+        let rsp = registers.integer[RSP];
         let above = rsp.checked_add(8).ok_or(OutsideStack)?;
-        let word = machine.word_at(rsp).ok_or(OutsideStack)?;
-        put(&mut machine.registers, self.register, word);
-        machine.registers.integer[RSP] = above;
+        let word = area.word_at(rsp).ok_or(OutsideStack)?;
+        put(registers, self.register, word);
+        registers.integer[RSP] = above;
         Ok(())
     }
 

@@ -9,9 +9,9 @@ ghost use Rattle.steps.specs.Laws.{save_restores, at_once};
 ghost use Rattle.std.proofs.lemmas.List.{length-set};
 
 use crate::kind::StepKind;
-use cpu::processor::{OutsideStack, Processor, put};
+use cpu::processor::{Area, OutsideStack, put};
 use layout::cursor::Cursor;
-use layout::registers::RSP;
+use layout::registers::{RSP, Registers};
 use x64::instruction::Instruction;
 
 #[derive(Clone, Copy, PartialEq, Eq, Debug)]
@@ -53,12 +53,12 @@ impl StepKind for SaveStep {
         }
     }
 
-    fn undo(&self, machine: &mut Processor) -> Result<(), OutsideStack> {
-        let at = machine.registers.integer[RSP]
+    fn undo(&self, registers: &mut Registers, area: Area<'_>) -> Result<(), OutsideStack> {
+        let at = registers.integer[RSP]
             .checked_add(u64::from(self.offset))
             .ok_or(OutsideStack)?;
-        let word = machine.word_at(at).ok_or(OutsideStack)?;
-        put(&mut machine.registers, self.register, word);
+        let word = area.word_at(at).ok_or(OutsideStack)?;
+        put(registers, self.register, word);
         Ok(())
     }
 

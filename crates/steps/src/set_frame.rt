@@ -12,9 +12,9 @@ ghost use Rattle.cpu.specs.Effects.{moved};
 
 use crate::kind::StepKind;
 use cpu::intent::value_of;
-use cpu::processor::{OutsideStack, Processor};
+use cpu::processor::{Area, OutsideStack};
 use layout::cursor::Cursor;
-use layout::registers::RSP;
+use layout::registers::{RSP, Registers};
 use x64::instruction::Instruction;
 
 #[derive(Clone, Copy, PartialEq, Eq, Debug)]
@@ -57,12 +57,12 @@ impl StepKind for SetFrameStep {
         }
     }
 
-    fn undo(&self, machine: &mut Processor) -> Result<(), OutsideStack> {
-        let frame = value_of(&machine.registers, self.register);
+    fn undo(&self, registers: &mut Registers, area: Area<'_>) -> Result<(), OutsideStack> {
+        let frame = value_of(registers, self.register);
         let below = frame
             .checked_sub(u64::from(self.offset))
             .ok_or(OutsideStack)?;
-        machine.registers.integer[RSP] = below;
+        registers.integer[RSP] = below;
         Ok(())
     }
 

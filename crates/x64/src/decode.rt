@@ -19,8 +19,7 @@ fn byte_at(bytes: &[u8], at: usize) -> u8
 fn extend(b: u8) -> u32
     ensures { result ≡ extended b }
 {
-    let n = u32::from(b);
-    if b < 128 { n } else { n + 0xffff_ff00 }
+    i32::from(b.cast_signed()).cast_unsigned()
 }
 
 // The displacement at `at`, of four bytes or one, and where it ends.
@@ -181,21 +180,20 @@ fn decode_rex(rex: u8, bytes: &[u8]) -> Option<(Instruction, usize)>
     requires { rex < 8 }
     ensures { result ≡ rexed rex bytes.now }
 {
-    let op = byte_at(bytes, 1);
     if rex / 2 % 2 != 0 {
         return None;
     }
-    if op == 0x81 || op == 0x83 {
-        if rex != 0 {
-            return None;
+    match byte_at(bytes, 1) {
+        op @ (0x81 | 0x83) => {
+            if rex != 0 {
+                return None;
+            }
+            let group = byte_at(bytes, 2);
+            with_displacement(op == 0x81, bytes, 3, |d| form_on_rsp(group, d))
         }
-        let group = byte_at(bytes, 2);
-        return with_displacement(op == 0x81, bytes, 3, |d| form_on_rsp(group, d));
+        0xc7 => decode_set(rex, bytes),
+        op => decode_memory(rex, op, bytes),
     }
-    if op == 0xc7 {
-        return decode_set(rex, bytes);
-    }
-    decode_memory(rex, op, bytes)
 }
 
 // The instruction that `bytes` begin with, and how many bytes it has; none where they begin no instruction,

@@ -141,17 +141,32 @@ pub fn encoded_length(i: Instruction) -> usize
 {
     match i {
         Instruction::Push(r) | Instruction::Pop(r) => 1 + usize::from(upper(r)),
-        Instruction::SubRsp(d) | Instruction::AddRsp(d) => { if is_short(d) { 4 } else { 7 } }
-        Instruction::StoreAtRsp { displacement, .. }
-        | Instruction::LoadAtRsp { displacement, .. }
-        | Instruction::LeaAtRsp { displacement, .. } => {
-            if is_short(displacement) { 5 } else { 8 }
+        Instruction::SubRsp(d)
+        | Instruction::AddRsp(d)
+        | Instruction::StoreAtFrame {
+            displacement: d,
+            ..
         }
-        Instruction::StoreAtFrame { displacement, .. }
-        | Instruction::LoadAtFrame { displacement, .. }
-        | Instruction::LeaRspAtFrame { displacement, .. } => {
-            if is_short(displacement) { 4 } else { 7 }
+        | Instruction::LoadAtFrame {
+            displacement: d,
+            ..
         }
+        | Instruction::LeaRspAtFrame {
+            displacement: d,
+            ..
+        } => { if is_short(d) { 4 } else { 7 } }
+        Instruction::StoreAtRsp {
+            displacement: d,
+            ..
+        }
+        | Instruction::LoadAtRsp {
+            displacement: d,
+            ..
+        }
+        | Instruction::LeaAtRsp {
+            displacement: d,
+            ..
+        } => { if is_short(d) { 5 } else { 8 } }
         Instruction::Set { .. } => 7,
         Instruction::Nop | Instruction::Ret => 1,
         Instruction::Call(_) => 5,
