@@ -2,12 +2,12 @@
 use Rattle.std.proofs.Common.{min, ◌≡◌, ℕ, ◌+◌, ◌%◌, ◌<◌, ◌≤◌, Bool, true, false, cond, not, ◌&&◌, ◌||◌, eqb, leb, ◌≢◌, List, [], ◌∷◌, ◌++◌, map, length, take, drop, is_ok, Some, Ok, Err, Option, Result, sym, refl, ap, ◌∙◌, subst, ⊎_elim, arith}
 use Rattle.std.specs.List.{list_any}
 use Rattle.std.specs.Result.{result_map_both}
-use Rattle.std.proofs.lemmas.List.{length-take}
+use Rattle.std.proofs.Math.Bool.{or-false}
 use Rattle.std.proofs.lemmas.List.Folds.{list_any-append}
 use Rattle.std.proofs.lemmas.Bool.{false≢true, true≢false, and_parts, leb-true, eqb-true, ne_eqb, cases_eq, or_cases, or_parts, not-true}
 use Rattle.layout.specs.Registers.{preserved}
 use Rattle.steps.specs.declared.set_frame.SetFrameStep.{SetFrameStep}
-use Rattle.plan.proofs.Passes.{next_ok, owed_good, counts_good, limits_within}
+use Rattle.plan.proofs.Passes.{take_short, next_ok, owed_good, counts_good, limits_within}
 use Rattle.plan.specs.Functions.{Text, Function, functions_in, functions_of}
 use Rattle.plan.specs.Refusals.{PlanFault, fault}
 use Rattle.plan.specs.Rules.{known, repeated, in_order, number_fits, shape_verdict, step_verdict}
@@ -75,12 +75,8 @@ Fines f used (s ∷ ss) = Fine used s × Framed f s × Fines f (used || sets_fra
 abbrev Before : List Step → Type 0
 Before before = (block before ≤ 2097152) × ((q : ℕ) → list_any (pushes q) before ≡ true → preserved q ≡ true)
 
-or_swap : (b : Bool) → (b || false) ≡ b
-or_swap true = refl
-or_swap false = refl
-
 any_push : (g : Step → Bool) (ss : List Step) (s : Step) → list_any g (ss ++ s ∷ []) ≡ (list_any g ss || g s)
-any_push g ss s = list_any-append g ss (s ∷ []) ∙ ap (λ b. list_any g ss || b) (or_swap (g s))
+any_push g ss s = list_any-append g ss (s ∷ []) ∙ ap (λ b. list_any g ss || b) (or-false (g s))
 
 block_push : (ss : List Step) (s : Step) → block ss ≤ 2097152 → block (s ∷ []) ≤ 2097152 → block (ss ++ s ∷ []) ≤ 2097152
 unfolding block
@@ -231,9 +227,6 @@ function_good n index at operation f a b v =
     let p = next_ok _ _ v in
     let g = steps_good _ _ (frame (map step_of f.steps)) [] f.steps nothing-before p.0 (λ _. refl) in
     record { few_steps = a; few_operations = b; records = g.0; fine = g.1 }
-
-take_short : {X : Type 0} (n m : ℕ) (xs : List X) → n ≤ m → length (take n xs) ≤ m
-take_short n m xs h = simp length-take (omega arith)
 
 pub functions_good : (n index at operation place : ℕ) (cs : List Counts) (ss : List StepRecord) (os : List OperationRecord) → limits_verdict place cs ≡ Ok tt → functions_verdict n index at operation (functions_in cs ss os) ≡ Ok tt → Goods (functions_in cs ss os)
 unfolding limits_verdict functions_verdict functions_in

@@ -1,7 +1,6 @@
 -- The loops of the checks, step by step.
-use Rattle.std.proofs.Common.{◌≡◌, ℕ, suc, ◌+◌, ◌<◌, ◌≤◌, Bool, true, false, cond, not, eqb, leb, List, [], ◌∷◌, ◌++◌, All, map, sum_by, length, get_or, take, drop, is_ok, Some, None, Ok, Err, Option, sym, refl, ap, ◌∙◌, subst, arith}
+use Rattle.std.proofs.Common.{◌≡◌, ℕ, suc, ◌+◌, ◌<◌, ◌≤◌, Bool, true, false, cond, not, eqb, leb, List, [], ◌∷◌, ◌++◌, map, sum_by, length, get_or, take, drop, is_ok, Some, None, Ok, Err, Option, sym, refl, ap, ◌∙◌, arith}
 use Rattle.std.proofs.lemmas.List.{at_drop_more, take_more, map-append, length-take, length-drop}
-use Rattle.std.proofs.lemmas.List.Elements.{All-nil, All-cons, All-tail}
 use Rattle.std.proofs.lemmas.List.Sums.{sum_by-cons}
 use Rattle.std.proofs.lemmas.List.Recursion.{is_sum_by}
 use Rattle.std.specs.List.{position, position_from}
@@ -94,20 +93,8 @@ counts_good cs s o h =
     let q = and_parts (eqb (steps_counted cs) s) (eqb (operations_counted cs) o) (owed_good _ 11 (length cs) p.1) in
     (p.0, eqb-true _ _ q.0, eqb-true _ _ q.1)
 
--- a function within the limits
-abbrev pub Small : Function → Type 0
-Small f = (length f.steps ≤ 10) × (length f.operations ≤ 255)
-
-take_short : {X : Type 0} (n m : ℕ) (xs : List X) → n ≤ m → length (take n xs) ≤ m
+pub take_short : {X : Type 0} (n m : ℕ) (xs : List X) → n ≤ m → length (take n xs) ≤ m
 take_short n m xs h = simp length-take (omega arith)
-
-pub all_small : (k : ℕ) (cs : List Counts) (ss : List StepRecord) (os : List OperationRecord) → limits_verdict k cs ≡ Ok tt → All Small (functions_in cs ss os)
-unfolding limits_verdict functions_in
-all_small k [] ss os h = All-nil Small
-all_small k (x ∷ cs) ss os h =
-    let p = next_ok _ _ h in
-    let w = limits_within x k p.0 in
-    All-cons Small _ _ (take_short x.steps 10 ss w.0, take_short x.operations 255 os w.1) (all_small (k + 1) cs (drop x.steps ss) (drop x.operations os) p.1)
 
 -- the functions have no more than the lists
 abbrev pub steps_in : List Function → ℕ
@@ -145,9 +132,6 @@ pub no_functions : (n k s o : ℕ) {fs : List Function} → fs ≡ [] → functi
 unfolding functions_verdict
 no_functions n k s o h = ap (functions_verdict n k s o) h
 
--- one turn of a loop over functions: what holds of those left
-pub small_turn : {fs : List Function} (f : Function) (gs : List Function) → fs ≡ f ∷ gs → All Small fs → All Small gs
-small_turn f gs e h = All-tail Small f gs (subst (All Small) e h)
-
+-- one turn of a loop over functions: what those left have
 pub in_turn : (g : Function → ℕ) (n m : ℕ) {fs : List Function} (f : Function) (gs : List Function) → fs ≡ f ∷ gs → n + sum_by g fs ≤ m → n + g f + sum_by g gs ≤ m
 in_turn g n m f gs e h = omega (arith, h, ap (sum_by g) e ∙ sum_by-cons g f gs)

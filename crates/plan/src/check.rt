@@ -101,7 +101,8 @@ fn check_function(
     operation: usize,
     f: Function<'_>,
 ) -> Result<(), PlanRefusal>
-    requires { (length f.steps.now ≤ 10) × ((step + length f.steps.now < 2 ^ 64) × (operation + length f.operations.now < 2 ^ 64)) }
+    requires steps { step + length f.steps.now < 2 ^ 64 }
+    requires operations { operation + length f.operations.now < 2 ^ 64 }
     ensures { told result ≡ function_verdict functions index step operation (function_of f.entry) }
 {
     let calls = has_call(f.operations);
@@ -112,7 +113,6 @@ fn check_function(
 
 // 12 to 17 for each function.
 fn check_functions(plan: &Plan<'_>) -> Result<(), PlanRefusal>
-    requires { counts_verdict plan.now.functions.now (length plan.now.steps.now) (length plan.now.operations.now) ≡ Ok tt }
     ensures { told result ≡ functions_verdict (length plan.now.functions.now) 0 0 0 (functions_of (text_of plan.now)) }
 {
     let mut step = 0;

@@ -11,6 +11,8 @@ use crate::survey::{
 };
 use crate::text::{OperationRecord, StepRecord};
 use layout::registers::{is_preserved, is_volatile};
+use steps::push::PushStep;
+use steps::save::SaveStep;
 
 fn is_known(r: StepRecord) -> bool
     ensures { result ≡ known r }
@@ -28,8 +30,9 @@ fn is_repeated(before: &[StepRecord], step: Step) -> bool
     ensures { result ≡ repeated (map step_of before.now) step }
 {
     match step {
-        Step::Push(k) => is_kept(before, k.register),
-        Step::Save(k) => is_kept(before, k.register),
+        Step::Push(PushStep { register }) | Step::Save(SaveStep { register, .. }) => {
+            is_kept(before, register)
+        }
         Step::Allocate(_) | Step::SetFrame(_) => false,
     }
 }
@@ -93,13 +96,12 @@ pub(crate) fn check_step(
     Ok(())
 }
 
-// Whether the stack is aligned for calls, and the block has room for a callee's home words.
+// Whether the stack is aligned for calls, and the block has room for a callee's home words; in 128 bits no sum overflows.
 pub(crate) fn is_aligned(calls: bool, steps: &[StepRecord]) -> bool
-    requires { length steps.now ≤ 10 }
     ensures { result ≡ aligned calls (map step_of steps.now) }
 {
     let block = block_size(steps);
-    !calls || (8 * pushes(steps) as u64 + u64::from(block)) % 16 == 8 && block >= 32
+    !calls || (8 * pushes(steps) as u128 + u128::from(block)) % 16 == 8 && block >= 32
 }
 
 fn is_settable(steps: &[StepRecord], register: u8) -> bool

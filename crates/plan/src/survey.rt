@@ -7,6 +7,8 @@ use crate::step::Step;
 use crate::text::StepRecord;
 use steps::set_frame::SetFrameStep;
 
+// Each question below is a chain of its own: within the longer conditions of the rules its proof did not close.
+
 // Whether one of the steps pushes or saves the register.
 pub(crate) fn is_kept(steps: &[StepRecord], register: u8) -> bool
     ensures { result ≡ list_any (keeps register) (map step_of steps.now) }

@@ -1,6 +1,6 @@
 use Rattle.std.proofs.Common.{◌^◌, ◌<◌, length, refl, sym, ◌∙◌, inl, rules, arith}
 use Rattle.std.proofs.lemmas.Result.{err_from_is_err_and}
-use Rattle.plan.proofs.Passes.{small_turn, in_turn, counts_good, all_small, few_steps_in, few_operations_in, length-functions_in, functions_one, no_functions, stopped, passed}
+use Rattle.plan.proofs.Passes.{in_turn, few_steps_in, few_operations_in, length-functions_in, functions_one, no_functions, stopped, passed}
 use Rattle.plan.proofs.check.check_functions.Goals as goal
 
 pub loop-k-init : goal.loop-k-init
@@ -13,7 +13,6 @@ loop-k-init c =
       (tt, tt, inl (omega (arith, length-functions_in t.functions.now t.steps.now t.operations.now, n))),
       tt,
       refl,
-      all_small 0 _ _ _ (counts_good _ _ _ c.requires).0,
       omega (arith, steps),
       omega (arith, operations),
     )
@@ -31,9 +30,8 @@ loop-k-preserved c =
       c.in-Some.ensures.goes.keeps,
       tt,
       inv.2 ∙ passed _ (functions_one _ _ _ _ _ _ _ turn.0 turn.1) (sym c.in_ok-check_function.ensures) ∙ rw turn.2 refl,
-      small_turn _ _ turn.0 inv.3,
-      in_turn (λ f. length f.steps) _ _ _ _ turn.0 inv.4,
-      in_turn (λ f. length f.operations) _ _ _ _ turn.0 inv.5,
+      in_turn (λ f. length f.steps) _ _ _ _ turn.0 inv.3,
+      in_turn (λ f. length f.operations) _ _ _ _ turn.0 inv.4,
     )
 
 pub returns : goal.returns
