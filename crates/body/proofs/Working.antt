@@ -1,6 +1,11 @@
 -- The operations of a body, and a function by its parts.
 use Rattle.std.proofs.Common.{◌≡◌, ℕ, ◌+◌, ◌^◌, ◌<◌, ◌≤◌, List, [], ◌∷◌, ◌++◌, map, length, get_or, drop, Option, sym, refl, ap, ◌∙◌, arith}
+use Rattle.std.specs.List.{sum_by}
+use Rattle.std.proofs.lemmas.List.Sums.{sum_by-cons}
 use Rattle.std.proofs.lemmas.List.{length-append, at_drop_more, at_drop_all}
+use Rattle.layout.specs.Cursors.{HasRoom}
+use Rattle.layout.specs.declared.cursor.Cursor.{Cursor}
+use Rattle.layout.proofs.Cursors.{Rest, begin, recast}
 use Rattle.x64.specs.Encodings.{encode}
 use Rattle.x64.specs.declared.instruction.Instruction.{Instruction}
 use Rattle.x64.specs.declared.instruction.Instruction.TheVariants.{Ret}
@@ -12,45 +17,40 @@ use Rattle.plan.specs.declared.operation.Operation.{Operation}
 use Rattle.plan.specs.declared.step.Step.{Step}
 use Rattle.plan.specs.declared.text.OperationRecord.{OperationRecord}
 use Rattle.steps.specs.declared.set_frame.SetFrameStep.{SetFrameStep}
-use Rattle.plan.proofs.Sizes.{same_operation}
+use Rattle.plan.proofs.Sizes.{same_operation, few_bytes}
 use Rattle.body.proofs.Bytes.{bytes-append, same_length, one}
-use Rattle.body.proofs.Writing.{Rest, begin, recast}
 
-pub sized : List Operation → ℕ
-sized [] = 0
-sized (o ∷ os) = length (encode (operation_instruction [] 0 o)) + sized os
+-- how many bytes an operation has, wherever it stands
+abbrev pub own_size : OperationRecord → ℕ
+own_size r = length (encode (operation_instruction [] 0 (operation_of r)))
 
-pub work_sized : (st : List ℕ) (at : ℕ) (os : List Operation) → length (bytes (work st at os)) ≡ sized os
-unfolding bytes work sized
+pub work_sized : (st : List ℕ) (at : ℕ) (rs : List OperationRecord) → length (bytes (work st at (map operation_of rs))) ≡ sum_by own_size rs
+unfolding bytes work
 work_sized st at [] = refl
-work_sized st at (o ∷ os) =
-    let i = operation_instruction st at o in
-    length-append (encode i) (bytes (work st (at + length (encode i)) os))
-    ∙ ap (λ n. n + length (bytes (work st (at + length (encode i)) os))) (same_operation st [] at 0 o)
-    ∙ ap (λ n. length (encode (operation_instruction [] 0 o)) + n) (work_sized st (at + length (encode i)) os)
+work_sized st at (r ∷ rs) =
+    let i = operation_instruction st at (operation_of r) in
+    length-append (encode i) (bytes (work st (at + length (encode i)) (map operation_of rs)))
+    ∙ ap (λ n. n + length (bytes (work st (at + length (encode i)) (map operation_of rs)))) (same_operation st [] at 0 (operation_of r))
+    ∙ ap (λ n. own_size r + n) (work_sized st (at + length (encode i)) rs) ∙ sym (sum_by-cons own_size r rs)
 
--- one more operation
-module _ (rs : List OperationRecord) (i : ℕ) (d : OperationRecord) (h : i < length rs) (o : Operation) (e : o ≡ operation_of (get_or rs i d)) where
-  pub work_one : (st : List ℕ) (at : ℕ) (x : Instruction) → x ≡ operation_instruction st at o →
-      bytes (work st at (map operation_of (drop i rs))) ≡ encode x ++ bytes (work st (at + length (encode x)) (map operation_of (drop (i + 1) rs)))
+-- one more operation, whose instruction has n bytes
+module _ (rs : List OperationRecord) (i : ℕ) (d : OperationRecord) (h : i < length rs) (o : Operation) (e : o ≡ operation_of (get_or rs i d))
+    (st : List ℕ) (at : ℕ) (x : Instruction) (y : x ≡ operation_instruction st at o) (n : ℕ) (z : n ≡ length (encode x)) where
+  pub work_one : bytes (work st at (map operation_of (drop i rs))) ≡ encode x ++ bytes (work st (at + n) (map operation_of (drop (i + 1) rs)))
   unfolding bytes work
-  work_one st at x y =
+  work_one =
       at_drop_more (λ l. bytes (work st at (map operation_of l))) rs i d h
       ∙ ap (λ z. encode z ++ bytes (work st (at + length (encode z)) (map operation_of (drop (i + 1) rs)))) (sym (y ∙ ap (operation_instruction st at) e))
+      ∙ ap (λ k. encode x ++ bytes (work st (at + k) (map operation_of (drop (i + 1) rs)))) (sym z)
 
-  pub sized_one : (x : Instruction) → x ≡ operation_instruction [] 0 o → sized (map operation_of (drop i rs)) ≡ length (encode x) + sized (map operation_of (drop (i + 1) rs))
-  unfolding sized
-  sized_one x y =
-      at_drop_more (λ l. sized (map operation_of l)) rs i d h
-      ∙ ap (λ z. length (encode z) + sized (map operation_of (drop (i + 1) rs))) (sym (y ∙ ap (operation_instruction [] 0) e))
+  pub work_length : length (bytes (work st at (map operation_of (drop i rs)))) ≡ n + length (bytes (work st (at + n) (map operation_of (drop (i + 1) rs))))
+  work_length =
+      let rest = bytes (work st (at + n) (map operation_of (drop (i + 1) rs))) in
+      ap length work_one ∙ length-append (encode x) rest ∙ ap (λ k. k + length rest) (sym z)
 
 pub work_none : (st : List ℕ) (at : ℕ) (rs : List OperationRecord) (i : ℕ) → length rs ≤ i → bytes (work st at (map operation_of (drop i rs))) ≡ []
 unfolding bytes work
 work_none st at rs i h = at_drop_all (λ l. bytes (work st at (map operation_of l))) rs i h
-
-pub sized_none : (rs : List OperationRecord) (i : ℕ) → length rs ≤ i → sized (map operation_of (drop i rs)) ≡ 0
-unfolding sized
-sized_none rs i h = at_drop_all (λ l. sized (map operation_of l)) rs i h
 
 -- loads and epilogue, part by part
 pub leave_parts : (ss : List Step) → bytes (leave ss) ≡ bytes (backward (loading (frame ss)) ss) ++ (bytes (leave_by (frame ss) (block ss)) ++ (bytes (backward popping ss) ++ encode Ret))
@@ -85,14 +85,14 @@ leave_sized ss =
 
 -- the size by parts, the same wherever the function stands
 pub function_sized : (st : List ℕ) (at : ℕ) (f : Function) → length (function_bytes st at f)
-    ≡ length (bytes (enter (steps_of f))) + sized (map operation_of f.operations) + length (bytes (leave (steps_of f)))
+    ≡ length (bytes (enter (steps_of f))) + sum_by own_size f.operations + length (bytes (leave (steps_of f)))
 function_sized st at f =
     let entered = bytes (enter (steps_of f)) in
     let worked = bytes (work st (at + length entered) (map operation_of f.operations)) in
     let a = ap length (function_parts st at f) in
     let b = length-append entered (worked ++ bytes (leave (steps_of f))) in
     let c = length-append worked (bytes (leave (steps_of f))) in
-    let d = work_sized st (at + length entered) (map operation_of f.operations) in
+    let d = work_sized st (at + length entered) f.operations in
     omega (arith, a, b, c, d)
 
 pub size_by_parts : (f : Function) → function_size f
@@ -101,29 +101,34 @@ pub size_by_parts : (f : Function) → function_size f
 size_by_parts f =
     let a = function_sized [] 0 f in
     let b = leave_sized (steps_of f) in
-    let c = work_sized [] 0 (map operation_of f.operations) in
+    let c = work_sized [] 0 f.operations in
     omega (arith, a, b, c)
-
--- what is to be written, in the form in which it is written
-pub leave_begin : (d : List ℕ) (at : ℕ) (ss : List Step) → at + length (bytes (leave ss)) ≤ length d → (fr : Option SetFrameStep) → fr ≡ frame ss → (size : ℕ) → size ≡ block ss →
-    Rest d at (bytes (leave ss)) d at (bytes (backward (loading fr) ss) ++ (bytes (leave_by fr size) ++ (bytes (backward popping ss) ++ encode Ret)))
-leave_begin d at ss h fr e size b =
-    let tail = bytes (backward popping ss) ++ encode Ret in
-    recast (begin d at (bytes (leave ss)) h)
-    (leave_parts ss
-    ∙ ap (λ f. bytes (backward (loading f) ss) ++ (bytes (leave_by f (block ss)) ++ tail)) (sym e)
-    ∙ ap (λ n. bytes (backward (loading fr) ss) ++ (bytes (leave_by fr n) ++ tail)) (sym b))
-
-pub function_begin : (d : List ℕ) (at : ℕ) (st : List ℕ) (rva : ℕ) (f : Function) → at + length (function_bytes st rva f) ≤ length d → (body : ℕ) → body ≡ rva + length (bytes (enter (steps_of f))) →
-    Rest d at (function_bytes st rva f) d at (bytes (enter (steps_of f)) ++ (bytes (work st body (map operation_of f.operations)) ++ bytes (leave (steps_of f))))
-function_begin d at st rva f h body e =
-    recast (begin d at (function_bytes st rva f) h)
-    (function_parts st rva f ∙ ap (λ p. bytes (enter (steps_of f)) ++ (bytes (work st p (map operation_of f.operations)) ++ bytes (leave (steps_of f)))) (sym e))
 
 -- the operations end where the loads begin, inside the function
 pub body_inside : (st : List ℕ) (rva body : ℕ) (f : Function) → body ≡ rva + length (bytes (enter (steps_of f))) → rva + length (function_bytes st rva f) + 5 < 2 ^ 32 →
     body + length (bytes (work st body (map operation_of f.operations))) + 5 < 2 ^ 32
 body_inside st rva body f e h =
     let a = function_sized st rva f in
-    let b = work_sized st body (map operation_of f.operations) in
+    let b = work_sized st body f.operations in
     omega (arith, a, b, e, h)
+
+pub operations_few : (rs : List OperationRecord) → length rs ≤ 255 → sum_by own_size rs ≤ 2300
+operations_few rs h =
+    let f : Function = record { steps = []; operations = rs } in
+    omega (arith, function_sized [] 0 f, few_bytes f (omega arith) h)
+
+-- what is to be written, in the form in which it is written
+pub leave_begin : (c : Cursor) (ss : List Step) → HasRoom c (bytes (leave ss)) → (fr : Option SetFrameStep) → fr ≡ frame ss → (size : ℕ) → size ≡ block ss →
+    Rest c (bytes (leave ss)) c (bytes (backward (loading fr) ss) ++ (bytes (leave_by fr size) ++ (bytes (backward popping ss) ++ encode Ret)))
+leave_begin c ss h fr e size b =
+    let tail = bytes (backward popping ss) ++ encode Ret in
+    recast (begin c (bytes (leave ss)) h)
+    (leave_parts ss
+    ∙ ap (λ f. bytes (backward (loading f) ss) ++ (bytes (leave_by f (block ss)) ++ tail)) (sym e)
+    ∙ ap (λ n. bytes (backward (loading fr) ss) ++ (bytes (leave_by fr n) ++ tail)) (sym b))
+
+pub function_begin : (c : Cursor) (st : List ℕ) (rva : ℕ) (f : Function) → HasRoom c (function_bytes st rva f) → (body : ℕ) → body ≡ rva + length (bytes (enter (steps_of f))) →
+    Rest c (function_bytes st rva f) c (bytes (enter (steps_of f)) ++ (bytes (work st body (map operation_of f.operations)) ++ bytes (leave (steps_of f))))
+function_begin c st rva f h body e =
+    recast (begin c (function_bytes st rva f) h)
+    (function_parts st rva f ∙ ap (λ p. bytes (enter (steps_of f)) ++ (bytes (work st p (map operation_of f.operations)) ++ bytes (leave (steps_of f)))) (sym e))

@@ -1,9 +1,10 @@
 // The instructions of a function's operations.
 ghost use Rattle.std.specs.Prelude.{◌≡◌, ℕ, ◌+◌, ◌*◌, ◌^◌, ◌<◌, ◌≤◌, [], map, length, slice_index};
-ghost use Rattle.layout.specs.Words.{overwritten};
+ghost use Rattle.layout.specs.Cursors.{HasRoom, wrote};
 ghost use Rattle.plan.specs.Bodies.{bytes, operation_instruction, work};
 ghost use Rattle.plan.specs.Operations.{operation_of};
 
+use layout::cursor::Cursor;
 use plan::operation::Operation;
 use plan::text::OperationRecord;
 use x64::encode::{emit, encoded_length};
@@ -13,11 +14,11 @@ use x64::instruction::Instruction;
 fn start_of(starts: &[u32], function: u8) -> u32
     ensures { result ≡ slice_index starts.now function }
 {
-    let k = usize::from(function);
-    if k < starts.len() { starts[k] } else { 0 }
+    starts.get(usize::from(function)).copied().unwrap_or(0)
 }
 
-// The instruction of an operation at an RVA, in a module whose functions start at `starts`.
+// The instruction of an operation at an RVA, in a module whose functions start at `starts`. (The two go together, but each
+// call has an RVA of its own: a struct of both would be made anew for each.)
 fn instruction_of(operation: Operation, starts: &[u32], rva: u32) -> Instruction
     requires { rva + 5 < 2 ^ 32 }
     ensures { result ≡ operation_instruction starts.now rva operation }
@@ -34,33 +35,29 @@ fn instruction_of(operation: Operation, starts: &[u32], rva: u32) -> Instruction
 pub(crate) fn operations_size(operations: &[OperationRecord]) -> usize
     requires { length operations.now ≤ 255 }
     ensures size { result ≡ length (bytes (work [] 0 (map operation_of operations.now))) }
-    ensures bound { result ≤ 8 * length operations.now }
+    ensures bound { result ≤ 2300 }
 {
-    let mut n = 0;
-    for o in operations {
-        n += encoded_length(instruction_of(Operation::of(*o), &[], 0));
-    }
-    n
+    operations
+        .iter()
+        .map(|o| encoded_length(instruction_of(Operation::from(*o), &[], 0)))
+        .sum()
 }
 
-// Writes the operations, from an RVA on, at `at`, where there is room, and answers where they end.
+// Writes the operations, from an RVA on.
 pub(crate) fn write_operations(
     operations: &[OperationRecord],
     starts: &[u32],
     rva: u32,
-    out: &mut [u8],
-    at: usize,
-) -> usize
-    requires { (at + length (bytes (work starts.now rva (map operation_of operations.now))) ≤ length out.old) × (rva + length (bytes (work starts.now rva (map operation_of operations.now))) + 5 < 2 ^ 32) }
-    ensures after { out.new ≡ overwritten out.old at (bytes (work starts.now rva (map operation_of operations.now))) }
-    ensures end { result ≡ at + length (bytes (work starts.now rva (map operation_of operations.now))) }
+    out: &mut Cursor,
+)
+    requires room { HasRoom out.old (bytes (work starts.now rva (map operation_of operations.now))) }
+    requires low { rva + length (bytes (work starts.now rva (map operation_of operations.now))) + 5 < 2 ^ 32 }
+    ensures { out.new ≡ wrote out.old (bytes (work starts.now rva (map operation_of operations.now))) }
 {
-    let mut end = at;
     let mut place = rva;
     for o in operations {
-        let i = instruction_of(Operation::of(*o), starts, place);
+        let i = instruction_of(Operation::from(*o), starts, place);
         place += encoded_length(i) as u32;
-        end = emit(out, end, i);
+        emit(out, i);
     }
-    end
 }

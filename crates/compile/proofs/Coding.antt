@@ -1,7 +1,11 @@
 -- The codes of steps, step by step.
-use Rattle.std.proofs.Common.{◌≡◌, ℕ, zero, suc, ◌+◌, ◌-◌, ◌/◌, ◌<◌, ◌≤◌, Bool, true, false, cond, leb, List, [], ◌∷◌, ◌++◌, map, length, get_or, take, drop, sym, refl, ap, ◌∙◌, arith}
-use Rattle.std.proofs.lemmas.List.{length-append, append_assoc, append-nil, at_drop_more, at_drop_all, take_more, map-append}
-use Rattle.layout.specs.Words.{overwritten}
+use Rattle.std.proofs.Common.{◌≡◌, ℕ, zero, suc, ◌+◌, ◌-◌, ◌/◌, ◌<◌, ◌≤◌, Bool, true, false, cond, leb, List, [], ◌∷◌, ◌++◌, map, length, reverse, get_or, take, sym, refl, ap, ◌∙◌, arith}
+use Rattle.std.specs.List.{sum_by}
+use Rattle.std.proofs.lemmas.List.{length-append, append_assoc, append-nil, take_more, map-append, length-reverse, get_or-reverse}
+use Rattle.std.proofs.lemmas.List.Sums.{sum_by-cons}
+use Rattle.layout.specs.Cursors.{HasRoom, wrote}
+use Rattle.layout.specs.declared.cursor.Cursor.{Cursor}
+use Rattle.layout.proofs.Cursors.{Rest, begin, recast, room, step}
 use Rattle.x64.specs.Encodings.{encode, four}
 use Rattle.steps.specs.Kinds.{two}
 use Rattle.plan.specs.Bodies.{bytes, forward, enter, entering}
@@ -11,7 +15,6 @@ use Rattle.plan.specs.declared.step.Step.{Step}
 use Rattle.plan.specs.declared.step.Step.TheVariants.{Push, Allocate, SetFrame, Save}
 use Rattle.plan.specs.declared.text.StepRecord.{StepRecord}
 use Rattle.body.proofs.Bytes.{bytes-append, one}
-use Rattle.body.proofs.Writing.{Rest, begin, recast, write}
 
 three_ways : (a b : Bool) (end x y n m : ℕ) → length (cond a (end ∷ x ∷ []) (cond b (end ∷ y ∷ two n) (end ∷ 17 ∷ four m))) ≡ length (cond a (0 ∷ x ∷ []) (cond b (0 ∷ y ∷ two n) (0 ∷ 17 ∷ four m)))
 three_ways true b end x y n m = refl
@@ -29,19 +32,19 @@ code-length end (Allocate k) = three_ways (leb k.size 128) (leb k.size 524280) e
 code-length end (SetFrame k) = refl
 code-length end (Save k) = two_ways (leb k.offset 524280) end _ _ _ _
 
-unfoldable pub coded : List Step → ℕ
-coded [] = 0
-coded (s ∷ ss) = length (step_code 0 s) + coded ss
+-- how many bytes the code of a record's step has
+abbrev pub code_bytes : StepRecord → ℕ
+code_bytes r = length (step_code 0 (step_of r))
 
-pub codes_coded : (from : ℕ) (ss : List Step) → length (codes from ss) ≡ coded ss
-unfolding codes coded
-codes_coded from [] = refl
-codes_coded from (s ∷ ss) =
-    let end = from + length (encode (step_instruction s)) in
-    let a = length-append (codes end ss) (step_code end s) in
-    let b = codes_coded end ss in
-    let c = code-length end s in
-    omega (arith, a, b, c)
+pub codes_sized : (from : ℕ) (rs : List StepRecord) → length (codes from (map step_of rs)) ≡ sum_by code_bytes rs
+unfolding codes
+codes_sized from [] = refl
+codes_sized from (r ∷ rs) =
+    let end = from + length (encode (step_instruction (step_of r))) in
+    let a = length-append (codes end (map step_of rs)) (step_code end (step_of r)) in
+    let b = codes_sized end rs in
+    let c = code-length end (step_of r) in
+    omega (arith, a, b, c, sum_by-cons code_bytes r rs)
 
 enter-cons : (s : Step) (ss : List Step) → length (bytes (enter (s ∷ ss))) ≡ length (encode (step_instruction s)) + length (bytes (enter ss))
 unfolding forward
@@ -95,15 +98,12 @@ codes_none rs i h =
     let none_left : i ≡ 0 = omega arith in
     ap (λ k. codes 0 (map step_of (take k rs))) none_left
 
--- one more step
-module _ (rs : List StepRecord) (i : ℕ) (d : StepRecord) (h : i < length rs) (s : Step) (e : s ≡ step_of (get_or rs i d)) where
-  pub coded_one : coded (map step_of (drop i rs)) ≡ length (step_code 0 s) + coded (map step_of (drop (i + 1) rs))
-  unfolding coded
-  coded_one = at_drop_more (λ l. coded (map step_of l)) rs i d h ∙ ap (λ x. length (step_code 0 x) + coded (map step_of (drop (i + 1) rs))) (sym e)
-
-pub coded_none : (rs : List StepRecord) (i : ℕ) → length rs ≤ i → coded (map step_of (drop i rs)) ≡ 0
-unfolding coded
-coded_none rs i h = at_drop_all (λ l. coded (map step_of l)) rs i h
+-- the step that comes after k others from the back
+pub turn_back : (rs : List StepRecord) (k : ℕ) (r : StepRecord) → (k < length (reverse rs)) × (r ≡ get_or (reverse rs) k r) → (0 < length rs - k) × (r ≡ get_or rs (length rs - k - 1) r)
+turn_back rs k r t =
+    let h : k < length rs = omega (arith, t.0, length-reverse rs) in
+    let same : length rs - 1 - k ≡ length rs - k - 1 = omega arith in
+    (omega (arith, h), t.1 ∙ get_or-reverse rs k r h ∙ ap (λ j. get_or rs j r) same)
 
 -- a step among sound ones is sound
 pub sound_at : (rs : List StepRecord) (i : ℕ) (d : StepRecord) → i < length rs → AllSound (map step_of rs) → Sound (step_of (get_or rs i d))
@@ -120,19 +120,23 @@ frame-fits (Allocate k ∷ ss) a = frame-fits ss a.1
 frame-fits (SetFrame k ∷ ss) a = omega (arith, a.0.1, a.0.2)
 frame-fits (Save k ∷ ss) a = frame-fits ss a.1
 
--- an info in the form in which it is written
-info_begin : (d : List ℕ) (at : ℕ) (ss : List Step) → at + length (info_bytes ss) ≤ length d → (prologue size byte : ℕ) → prologue ≡ length (bytes (enter ss)) → size ≡ length (codes 0 ss) → byte ≡ frame_byte (frame ss) →
-    Rest d at (info_bytes ss) d at ((1 ∷ prologue ∷ size / 2 ∷ byte ∷ []) ++ (codes 0 ss ++ pad size))
-info_begin d at ss h prologue size byte p n f =
-    recast (begin d at (info_bytes ss) h)
-    (ap (λ k. (1 ∷ k ∷ length (codes 0 ss) / 2 ∷ frame_byte (frame ss) ∷ []) ++ (codes 0 ss ++ pad (length (codes 0 ss)))) (sym p)
-    ∙ ap (λ k. (1 ∷ prologue ∷ k / 2 ∷ frame_byte (frame ss) ∷ []) ++ (codes 0 ss ++ pad k)) (sym n)
-    ∙ ap (λ k. (1 ∷ prologue ∷ size / 2 ∷ k ∷ []) ++ (codes 0 ss ++ pad size)) (sym f))
+-- an info in the form in which it is written: a header first
+module _ (c : Cursor) (ss : List Step) (h : HasRoom c (info_bytes ss)) (prologue size byte : ℕ) (p : prologue ≡ length (bytes (enter ss))) (n : size ≡ length (codes 0 ss)) (f : byte ≡ frame_byte (frame ss)) where
+  abbrev header : List ℕ
+  header = 1 ∷ prologue ∷ size / 2 ∷ byte ∷ []
 
--- after the header
-pub info_headed : (d : List ℕ) (at : ℕ) (ss : List Step) → at + length (info_bytes ss) ≤ length d → (prologue size byte : ℕ) → prologue ≡ length (bytes (enter ss)) → size ≡ length (codes 0 ss) → byte ≡ frame_byte (frame ss) →
-    (d' : List ℕ) (at' : ℕ) → d' ≡ overwritten d at (1 ∷ prologue ∷ size / 2 ∷ byte ∷ []) → at' ≡ at + 4 → Rest d at (info_bytes ss) d' at' (codes 0 ss ++ pad size)
-info_headed d at ss h prologue size byte p n f d' at' e q = write (1 ∷ prologue ∷ size / 2 ∷ byte ∷ []) (codes 0 ss ++ pad size) (info_begin d at ss h prologue size byte p n f) d' at' e q
+  in_parts : Rest c (info_bytes ss) c (header ++ (codes 0 ss ++ pad size))
+  in_parts =
+      recast (begin c (info_bytes ss) h)
+      (ap (λ k. (1 ∷ k ∷ length (codes 0 ss) / 2 ∷ frame_byte (frame ss) ∷ []) ++ (codes 0 ss ++ pad (length (codes 0 ss)))) (sym p)
+      ∙ ap (λ k. (1 ∷ prologue ∷ k / 2 ∷ frame_byte (frame ss) ∷ []) ++ (codes 0 ss ++ pad k)) (sym n)
+      ∙ ap (λ k. (1 ∷ prologue ∷ size / 2 ∷ k ∷ []) ++ (codes 0 ss ++ pad size)) (sym f))
+
+  pub header_room : HasRoom c header
+  header_room = room header (codes 0 ss ++ pad size) in_parts
+
+  pub headed : (d : Cursor) → d ≡ wrote c header → Rest c (info_bytes ss) d (codes 0 ss ++ pad size)
+  headed d e = step header (codes 0 ss ++ pad size) in_parts d e
 
 pub info_length : (ss : List Step) (size : ℕ) → size ≡ length (codes 0 ss) → length (info_bytes ss) ≡ 4 + size + length (pad size)
 info_length ss size n =

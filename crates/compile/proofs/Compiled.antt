@@ -1,26 +1,18 @@
 -- What the compiler has when it comes to write.
-use Rattle.std.proofs.Common.{◌≡◌, ℕ, suc, ◌+◌, ◌*◌, ◌≤◌, ◌&&◌, leb, List, [], ◌∷◌, length, drop, Ok, Err, sym, refl, ap, ◌∙◌, arith}
-use Rattle.std.proofs.lemmas.Bool.{and_parts, leb-true}
+use Rattle.std.proofs.Common.{◌≡◌, ℕ, ◌+◌, ◌*◌, ◌≤◌, leb, List, [], ◌∷◌, length, Ok, Err, sym, refl, ap, ◌∙◌, arith}
+use Rattle.std.proofs.lemmas.Bool.{leb-true}
 use Rattle.std.proofs.lemmas.List.{length-append}
 use Rattle.plan.specs.Bodies.{steps_of, function_size}
-use Rattle.plan.specs.Functions.{Text, Function, functions_in, functions_of}
+use Rattle.plan.specs.Functions.{Text, Function, functions_of}
 use Rattle.plan.specs.Layouts.{up, starts, code, infos, entry, table, table_from, info_start}
 use Rattle.plan.specs.Refusals.{PlanFault}
 use Rattle.plan.specs.UnwindInfos.{info_bytes}
-use Rattle.plan.specs.Verdicts.{next, owed, counts_verdict, functions_verdict, plan_verdict}
-use Rattle.plan.specs.declared.text.Counts.{Counts}
-use Rattle.plan.specs.declared.text.OperationRecord.{OperationRecord}
-use Rattle.plan.specs.declared.text.StepRecord.{StepRecord}
-use Rattle.plan.proofs.Passes.{next_ok, owed_good}
+use Rattle.plan.specs.Verdicts.{next, owed, plan_verdict}
+use Rattle.plan.proofs.Passes.{next_ok, owed_good, length-functions_in}
 use Rattle.compile.specs.Compilings.{lengths, room_verdict, answered, compiling}
 use Rattle.compile.specs.Writables.{Writable}
 use Rattle.compile.specs.declared.lengths.Lengths.{Lengths}
 use Rattle.compile.proofs.Laying.{table-cons}
-
-functions_length : (cs : List Counts) (ss : List StepRecord) (os : List OperationRecord) → length (functions_in cs ss os) ≡ length cs
-unfolding functions_in
-functions_length [] ss os = refl
-functions_length (c ∷ cs) ss os = ap suc (functions_length cs (drop c.steps ss) (drop c.operations os))
 
 table-length : (at info : ℕ) (fs : List Function) → length (table_from at info fs) ≡ 12 * length fs
 unfolding table_from
@@ -32,47 +24,32 @@ table-length at info (f ∷ fs) =
     let c = table-length (up 16 at + function_size f) (info + length (info_bytes (steps_of f))) fs in
     omega (arith, a, b, c)
 
--- what an accepted plan is
-pub accepted_parts : (t : Text) → plan_verdict t ≡ Ok tt → (length t.counts ≤ 64) × (counts_verdict t.counts (length t.steps) (length t.operations) ≡ Ok tt) × (functions_verdict (length t.counts) 0 0 0 (functions_of t) ≡ Ok tt)
-accepted_parts t h =
-    let n = length t.counts in
-    let p = next_ok (owed (leb 1 n && leb n 64) 10 0) _ h in
-    let q = next_ok (counts_verdict t.counts (length t.steps) (length t.operations)) _ p.1 in
-    let r = and_parts (leb 1 n) (leb n 64) (owed_good _ 10 0 p.0) in
-    (leb-true _ _ r.1, q.0, q.1)
-
 -- the lengths that were measured
-pub lengths_are : (cs : List Counts) (ss : List StepRecord) (os : List OperationRecord) (c i : ℕ) → c ≡ length (code (functions_in cs ss os)) → i ≡ length (infos (functions_in cs ss os)) →
-    record { code = c; infos = i; table = 12 * length cs } ≡ lengths (functions_in cs ss os)
-lengths_are cs ss os c i ec ei =
-    let fs = functions_in cs ss os in
-    let et : 12 * length cs ≡ length (table fs) = ap (λ n. 12 * n) (sym (functions_length cs ss os)) ∙ sym (table-length 4096 (info_start fs) fs) in
-    ap (λ x. record { code = x; infos = i; table = 12 * length cs }) ec ∙ ap (λ x. record { code = length (code fs); infos = x; table = 12 * length cs }) ei
+pub lengths_are : (p : Text) (c i : ℕ) → c ≡ length (code (functions_of p)) → i ≡ length (infos (functions_of p)) →
+    record { code = c; infos = i; table = 12 * length p.counts } ≡ lengths (functions_of p)
+lengths_are p c i ec ei =
+    let fs = functions_of p in
+    let et : 12 * length p.counts ≡ length (table fs) = ap (λ n. 12 * n) (sym (length-functions_in p.counts p.steps p.operations)) ∙ sym (table-length 4096 (info_start fs) fs) in
+    ap (λ x. record { code = x; infos = i; table = 12 * length p.counts }) ec ∙ ap (λ x. record { code = length (code fs); infos = x; table = 12 * length p.counts }) ei
     ∙ ap (λ x. record { code = length (code fs); infos = length (infos fs); table = x }) et
 
-pub writable : (t : Text) → plan_verdict t ≡ Ok tt → (n : Lengths) → n ≡ lengths (functions_of t) → (c i b : List ℕ) → room_verdict n (length c) (length i) (length b) ≡ Ok tt →
-    (st : List ℕ) → st ≡ starts (functions_of t) → (rva : ℕ) → rva ≡ 4096 + up 4096 n.code → n.code ≤ 200000 → Writable t.counts t.steps t.operations st rva c i b
-writable t ok n e c i b room st es rva er small =
-    let fs = functions_of t in
-    let p = accepted_parts t ok in
+pub writable : (p : Text) → plan_verdict p ≡ Ok tt → (n : Lengths) → n ≡ lengths (functions_of p) → (c i b : List ℕ) → room_verdict n (length c) (length i) (length b) ≡ Ok tt →
+    (st : List ℕ) → st ≡ starts (functions_of p) → (rva : ℕ) → rva ≡ 4096 + up 4096 n.code → n.code ≤ 200000 → Writable p st rva c i b
+writable p ok n e c i b room st es rva er small =
     let q = next_ok (owed (leb n.code (length c)) 18 0) _ room in
     let r = next_ok (owed (leb n.infos (length i)) 18 1) (owed (leb n.table (length b)) 18 2) q.1 in
     let x : n.code ≤ length c = leb-true _ _ (owed_good _ 18 0 q.0) in
     let y : n.infos ≤ length i = leb-true _ _ (owed_good _ 18 1 r.0) in
     let z : n.table ≤ length b = leb-true _ _ (owed_good _ 18 2 r.1) in
-    let ec : n.code ≡ length (code fs) = ap (λ l. l.code) e in
-    let ei : n.infos ≡ length (infos fs) = ap (λ l. l.infos) e in
-    let et : n.table ≡ length (table fs) = ap (λ l. l.table) e in
+    let ec : n.code ≡ length (code (functions_of p)) = ap (λ l. l.code) e in
     record {
-      counted = p.1;
-      few = p.0;
-      accepted = p.2;
+      accepted = ok;
       started = es;
       placed = er ∙ ap (λ k. 4096 + up 4096 k) ec;
       bounded = omega (arith, er, small);
       code_room = omega (arith, x, ec);
-      infos_room = omega (arith, y, ei);
-      table_room = omega (arith, z, et);
+      infos_room = omega (arith, y, ap (λ l. l.infos) e);
+      table_room = omega (arith, z, ap (λ l. l.table) e);
     }
 
 -- the answer, with and without room

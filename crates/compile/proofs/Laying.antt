@@ -1,16 +1,12 @@
 -- The functions of a module, one after another.
-use Rattle.std.proofs.Common.{◌≡◌, ℕ, ◌+◌, ◌-◌, ◌*◌, ◌<◌, ◌≤◌, List, [], ◌∷◌, ◌++◌, map, length, get_or, take, drop, set, sym, refl, ap, ◌∙◌, arith}
+use Rattle.std.proofs.Common.{◌≡◌, ℕ, ◌+◌, ◌-◌, ◌*◌, ◌<◌, ◌≤◌, List, [], ◌∷◌, ◌++◌, length, take, set, sym, refl, ap, ◌∙◌, subst, arith}
 use lib.ListN.{length-replicate}
-use Rattle.std.proofs.lemmas.List.{length-append, append_assoc, append-nil, at_drop_all, take_more_set, length-set}
+use Rattle.std.proofs.lemmas.List.{length-append, append_assoc, append-nil, take_more_set, length-set}
 use Rattle.plan.specs.Bodies.{steps_of, function_bytes, function_size}
-use Rattle.plan.specs.Functions.{Function, functions_in}
+use Rattle.plan.specs.Functions.{Function}
 use Rattle.plan.specs.Layouts.{up, starts, starts_from, code, gap, code_from, infos, entry, table_from}
-use Rattle.plan.specs.Steps.{step_of}
 use Rattle.plan.specs.UnwindInfos.{info_bytes}
-use Rattle.plan.specs.declared.text.Counts.{Counts}
-use Rattle.plan.specs.declared.text.OperationRecord.{OperationRecord}
-use Rattle.plan.specs.declared.text.StepRecord.{StepRecord}
-use Rattle.plan.proofs.Passes.{InLists, lists_fit, lists_on, length_part, functions_cons}
+use Rattle.plan.proofs.Accepted.{Good, Goods}
 use Rattle.plan.proofs.Sizes.{same_size}
 
 -- the multiple of 16 lies less than 16 up
@@ -49,74 +45,41 @@ module _ (f : Function) (fs : List Function) where
   unfolding table_from
   table-cons at info = refl
 
--- the functions from k on, as a loop has the first of them
-module _ (cs : List Counts) (ss : List StepRecord) (os : List OperationRecord) (k s o : ℕ) (d : Counts) (h : k < length cs)
-    (a : List StepRecord) (b : List OperationRecord) (n m : ℕ) (ea : a ≡ take (get_or cs k d).steps (drop s ss)) (eb : b ≡ take (get_or cs k d).operations (drop o os))
-    (en : n ≡ (get_or cs k d).steps) (em : m ≡ (get_or cs k d).operations) where
-  pub left_cons : functions_in (drop k cs) (drop s ss) (drop o os) ≡ record { steps = a; operations = b } ∷ functions_in (drop (k + 1) cs) (drop (s + n) ss) (drop (o + m) os)
-  left_cons =
-      let later = functions_in (drop (k + 1) cs) in
-      functions_cons 0 cs ss os k s o d h
-      ∙ ap (λ x. record { steps = x; operations = take (get_or cs k d).operations (drop o os) } ∷ later (drop (s + (get_or cs k d).steps) ss) (drop (o + (get_or cs k d).operations) os)) (sym ea)
-      ∙ ap (λ x. record { steps = a; operations = x } ∷ later (drop (s + (get_or cs k d).steps) ss) (drop (o + (get_or cs k d).operations) os)) (sym eb)
-      ∙ ap (λ x. record { steps = a; operations = b } ∷ later (drop (s + x) ss) (drop (o + (get_or cs k d).operations) os)) (sym en)
-      ∙ ap (λ x. record { steps = a; operations = b } ∷ later (drop (s + n) ss) (drop (o + x) os)) (sym em)
-
-pub no_left : (cs : List Counts) (ss : List StepRecord) (os : List OperationRecord) (k : ℕ) → length cs ≤ k → functions_in (drop k cs) ss os ≡ []
-unfolding functions_in
-no_left cs ss os k h = at_drop_all (λ l. functions_in l ss os) cs k h
-
 pub nothing_left : (st : List ℕ) (at info : ℕ) → (starts_from at [] ≡ []) × (code_from st at [] ≡ []) × (infos [] ≡ []) × (table_from at info [] ≡ [])
 unfolding starts_from code_from infos table_from
 nothing_left st at info = (refl, refl, refl, refl)
 
 -- one more start in the array
-pub start_put : (all xs rest : List ℕ) (k y : ℕ) → k < length xs → all ≡ take k xs ++ (y ∷ rest) → all ≡ take (k + 1) (set xs k y) ++ rest
+start_put : (all xs rest : List ℕ) (k y : ℕ) → k < length xs → all ≡ take k xs ++ (y ∷ rest) → all ≡ take (k + 1) (set xs k y) ++ rest
 start_put all xs rest k y h e = e ∙ sym (ap (λ l. l ++ rest) (take_more_set xs k y h) ∙ append_assoc (take k xs) (y ∷ []) rest)
 
-abbrev pub left : List Counts → List StepRecord → List OperationRecord → ℕ → ℕ → ℕ → List Function
-left cs ss os k s o = functions_in (drop k cs) (drop s ss) (drop o os)
-
-pub lists_to : (cs : List Counts) (ss : List StepRecord) (os : List OperationRecord) (k s o : ℕ) (d : Counts) → k < length cs → InLists cs ss os k s o → (p q : ℕ) → p ≡ (get_or cs k d).steps → q ≡ (get_or cs k d).operations → InLists cs ss os (k + 1) (s + p) (o + q)
-lists_to cs ss os k s o d h l p q ep eq =
-    let on = lists_on cs ss os k s o d h l in
-    (omega (arith, on.0, ep), omega (arith, on.1, eq), on.2)
-
--- k functions measured: their starts are in the array, their code ends at an RVA, and their infos have n bytes
-pub record Measured (cs : List Counts) (ss : List StepRecord) (os : List OperationRecord) (xs : List ℕ) (k s o at n : ℕ) : Type 0 where
-  pub lists : InLists cs ss os k s o
-  pub inside : k ≤ length cs
+-- k functions measured, and others left: the starts are in the array, the code ends at an RVA, and the infos have n bytes
+pub record Measured (fs : List Function) (xs : List ℕ) (k at n : ℕ) (left : List Function) : Type 0 where
+  pub good : Goods left
   pub room : length xs ≡ 64
-  pub starts_are : starts (functions_in cs ss os) ≡ take k xs ++ starts_from at (left cs ss os k s o)
-  pub code_is : 4096 + length (code (functions_in cs ss os)) ≡ at + length (code_from (starts (functions_in cs ss os)) at (left cs ss os k s o))
-  pub infos_are : length (infos (functions_in cs ss os)) ≡ n + length (infos (left cs ss os k s o))
+  pub count : k + length left ≡ length fs
+  pub starts_are : starts fs ≡ take k xs ++ starts_from at left
+  pub code_is : 4096 + length (code fs) ≡ at + length (code_from (starts fs) at left)
+  pub infos_are : length (infos fs) ≡ n + length (infos left)
   pub low : 4096 ≤ at
   pub high : at ≤ 4096 + 2400 * k
   pub few : n ≤ 66 * k
+  pub most : length fs ≤ 64
 
-pub measured_none : (cs : List Counts) (ss : List StepRecord) (os : List OperationRecord) (xs : List ℕ) → InLists cs ss os 0 0 0 → length xs ≡ 64 → Measured cs ss os xs 0 0 0 4096 0
-measured_none cs ss os xs l r =
-    record { lists = l; inside = omega arith; room = r; starts_are = refl; code_is = refl; infos_are = omega arith; low = omega arith; high = omega arith; few = omega arith }
+pub measured_none : (fs : List Function) (xs : List ℕ) → Goods fs → length fs ≤ 64 → length xs ≡ 64 → Measured fs xs 0 4096 0 fs
+measured_none fs xs g most r = record { good = g; room = r; count = omega arith; starts_are = refl; code_is = refl; infos_are = omega arith; low = omega arith; high = omega arith; few = omega arith; most = most }
 
-module _ {cs : List Counts} {ss : List StepRecord} {os : List OperationRecord} {xs : List ℕ} {k s o at n : ℕ} (r : Measured cs ss os xs k s o at n) where
-  -- the parts of the lists that the next function has
-  pub own_sizes : (d : Counts) (a : List StepRecord) (b : List OperationRecord) → k < length cs → a ≡ take (get_or cs k d).steps (drop s ss) → b ≡ take (get_or cs k d).operations (drop o os) → (length a ≤ 10) × (length b ≤ 255)
-  own_sizes d a b h ea eb =
-      let fit = lists_fit cs ss os k s o d h r.lists in
-      let x = ap length ea ∙ length_part ss s (get_or cs k d).steps fit.0 in
-      let y = ap length eb ∙ length_part os o (get_or cs k d).operations fit.1 in
-      (omega (arith, x, fit.2), omega (arith, y, fit.3))
+-- the next function
+module _ {fs : List Function} {xs : List ℕ} {k at n : ℕ} {left : List Function} (r : Measured fs xs k at n left) (f : Function) (later : List Function) (cons : left ≡ f ∷ later) where
+  pub next_good : Good f
+  next_good = (subst Goods cons r.good).0
 
-  -- the next function
-  pub measured_on : (d : Counts) (a : List StepRecord) (b : List OperationRecord) (p q begin size bytes : ℕ) → k < length cs → length cs ≤ 64
-      → a ≡ take (get_or cs k d).steps (drop s ss) → b ≡ take (get_or cs k d).operations (drop o os) → p ≡ (get_or cs k d).steps → q ≡ (get_or cs k d).operations
-      → begin ≡ up 16 at → size ≡ function_size (record { steps = a; operations = b }) → size ≤ 2300 → bytes ≡ length (info_bytes (map step_of a)) → bytes ≤ 66
-      → Measured cs ss os (set xs k begin) (k + 1) (s + p) (o + q) (begin + size) (n + bytes)
-  measured_on d a b p q begin size bytes h most ea eb ep eq eu es ls ei li =
-      let f : Function = record { steps = a; operations = b } in
-      let fs = functions_in cs ss os in
-      let later = left cs ss os (k + 1) (s + p) (o + q) in
-      let cons = left_cons cs ss os k s o d h a b p q ea eb ep eq in
+  pub one_more : k + 1 + length later ≡ length fs
+  one_more = omega (arith, r.count, ap length cons)
+
+  pub measured_on : (begin size bytes : ℕ) → begin ≡ up 16 at → size ≡ function_size f → size ≤ 2300 → bytes ≡ length (info_bytes (steps_of f)) → bytes ≤ 66
+      → Measured fs (set xs k begin) (k + 1) (begin + size) (n + bytes) later
+  measured_on begin size bytes eu es ls ei li =
       let to : up 16 at + function_size f ≡ begin + size = omega (arith, eu, es) in
       let u = up_fits at in
       let more = code-length f later (starts fs) at in
@@ -125,10 +88,10 @@ module _ {cs : List Counts} {ss : List StepRecord} {os : List OperationRecord} {
       let infos-same = ap (λ l. length (infos l)) cons in
       let infos-more = infos-length f later in
       record {
-        lists = lists_to cs ss os k s o d h r.lists p q ep eq;
-        inside = omega (arith, h);
+        good = (subst Goods cons r.good).1;
         room = length-set xs k begin ∙ r.room;
-        starts_are = start_put (starts fs) xs (starts_from (begin + size) later) k begin (omega (arith, h, most, r.room))
+        count = one_more;
+        starts_are = start_put (starts fs) xs (starts_from (begin + size) later) k begin (omega (arith, one_more, r.most, r.room))
             (r.starts_are ∙ ap (λ l. take k xs ++ starts_from at l) cons ∙ ap (λ l. take k xs ++ l) (starts-cons f later at)
             ∙ ap (λ y. take k xs ++ (y ∷ starts_from (up 16 at + function_size f) later)) (sym eu) ∙ ap (λ e. take k xs ++ (begin ∷ starts_from e later)) to);
         code_is = omega (arith, r.code_is, more, same, moved, to);
@@ -136,20 +99,19 @@ module _ {cs : List Counts} {ss : List StepRecord} {os : List OperationRecord} {
         low = omega (arith, r.low, eu, u.0);
         high = omega (arith, r.high, eu, u.1, ls);
         few = omega (arith, r.few, li);
+        most = r.most;
       }
 
-  -- all functions
-  pub measured_all : length cs ≤ k → length cs ≤ 64 →
-      (take (length cs) xs ≡ starts (functions_in cs ss os)) × (at - 4096 ≡ length (code (functions_in cs ss os))) × (n ≡ length (infos (functions_in cs ss os))) × (at - 4096 ≤ 200000)
-  measured_all h most =
-      let fs = functions_in cs ss os in
-      let none = no_left cs (drop s ss) (drop o os) k h in
-      let ends = nothing_left (starts fs) at 0 in
-      let here : k ≡ length cs = omega (arith, h, r.inside) in
-      let a = ap (λ l. length (code_from (starts fs) at l)) none ∙ ap length ends.1 in
-      let b = ap (λ l. length (infos l)) none ∙ ap length ends.2 in (
-        sym (r.starts_are ∙ ap (λ l. take k xs ++ starts_from at l) none ∙ ap (λ l. take k xs ++ l) ends.0 ∙ append-nil (take k xs) ∙ ap (λ j. take j xs) here),
-        omega (arith, r.code_is, a),
-        omega (arith, r.infos_are, b),
-        omega (arith, r.high, here, most),
-      )
+-- all functions
+pub measured_all : {fs : List Function} {xs : List ℕ} {k at n : ℕ} {left : List Function} → Measured fs xs k at n left → left ≡ [] →
+    (take (length fs) xs ≡ starts fs) × (at - 4096 ≡ length (code fs)) × (n ≡ length (infos fs)) × (at - 4096 ≤ 200000)
+measured_all {fs = fs} {xs = xs} {k = k} {at = at} {n = n} r none =
+    let ends = nothing_left (starts fs) at 0 in
+    let here : k ≡ length fs = omega (arith, r.count, ap length none) in
+    let a = ap (λ l. length (code_from (starts fs) at l)) none ∙ ap length ends.1 in
+    let b = ap (λ l. length (infos l)) none ∙ ap length ends.2 in (
+      sym (r.starts_are ∙ ap (λ l. take k xs ++ starts_from at l) none ∙ ap (λ l. take k xs ++ l) ends.0 ∙ append-nil (take k xs) ∙ ap (λ j. take j xs) here),
+      omega (arith, r.code_is, a),
+      omega (arith, r.infos_are, b),
+      omega (arith, r.high, here, r.most),
+    )

@@ -1,9 +1,10 @@
 // The compiler.
-ghost use Rattle.std.specs.Prelude.{◌≡◌, ℕ, length, is_ok, if◌then◌else◌};
+ghost use Rattle.std.specs.Prelude.{◌≡◌, ℕ, length, is_ok, if◌then◌else◌, nat_le};
 ghost use Rattle.layout.specs.Words.{overwritten};
 ghost use Rattle.plan.specs.Functions.{text_of, functions_of};
 ghost use Rattle.plan.specs.Layouts.{code as code_of, infos as infos_of, table as table_of};
 ghost use Rattle.plan.specs.Refusals.{told};
+ghost use Rattle.plan.specs.Verdicts.{owed};
 ghost use Rattle.compile.specs.Compilings.{room_verdict, compiling};
 
 use crate::layout_of::{info_start, measure};
@@ -12,23 +13,26 @@ use crate::writing::write_module;
 use plan::refusal::{PlanReason, PlanRefusal};
 use plan::text::Plan;
 
-// 18 for the first buffer that is too short.
-fn check_room(n: Lengths, code: usize, infos: usize, table: usize) -> Result<(), PlanRefusal>
-    ensures { told result ≡ room_verdict n code infos table }
+// 18 for a buffer that is too short.
+fn check_one(index: usize, need: usize, room: usize) -> Result<(), PlanRefusal>
+    ensures { told result ≡ owed (nat_le need room) 18 index }
 {
-    let index = if n.code > code {
-        0
-    } else if n.infos > infos {
-        1
-    } else if n.table > table {
-        2
-    } else {
-        return Ok(());
-    };
-    Err(PlanRefusal {
-        reason: PlanReason::Buffer,
-        index,
-    })
+    if need > room {
+        return Err(PlanRefusal {
+            reason: PlanReason::Buffer,
+            index,
+        });
+    }
+    Ok(())
+}
+
+// 18 for the first buffer that is too short.
+fn check_room(need: Lengths, room: Lengths) -> Result<(), PlanRefusal>
+    ensures { told result ≡ room_verdict need room.code room.infos room.table }
+{
+    check_one(0, need.code, room.code)?;
+    check_one(1, need.infos, room.infos)?;
+    check_one(2, need.table, room.table)
 }
 
 // Compiles a plan into the first bytes of three buffers, and answers how many bytes each got; the rest of the buffers stays.
@@ -46,22 +50,19 @@ pub fn compile(
 {
     plan.check()?;
     let count = plan.functions.len();
-    let layout = measure(plan.functions, plan.steps, plan.operations);
+    let layout = measure(plan);
     let lengths = Lengths {
         code: layout.code,
         infos: layout.infos,
         table: 12 * count,
     };
-    check_room(lengths, code.len(), infos.len(), table.len())?;
-    write_module(
-        plan.functions,
-        plan.steps,
-        plan.operations,
-        &layout.starts[..count],
-        info_start(layout.code),
-        code,
-        infos,
-        table,
-    );
+    let room = Lengths {
+        code: code.len(),
+        infos: infos.len(),
+        table: table.len(),
+    };
+    check_room(lengths, room)?;
+    let rva = info_start(layout.code);
+    write_module(plan, &layout.starts[..count], rva, code, infos, table);
     Ok(lengths)
 }

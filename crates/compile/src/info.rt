@@ -1,16 +1,17 @@
 // The unwind info of a function: how many bytes it has, and writing it.
 ghost use Rattle.std.specs.Prelude.{◌≡◌, ℕ, ◌+◌, ◌*◌, ◌/◌, ◌<◌, ◌≤◌, map, length};
-ghost use Rattle.layout.specs.Words.{overwritten};
+ghost use Rattle.layout.specs.Cursors.{HasRoom, wrote};
 ghost use Rattle.plan.specs.Bodies.{bytes, enter};
 ghost use Rattle.plan.specs.Steps.{AllSound, step_of, step_code, frame};
 ghost use Rattle.plan.specs.UnwindInfos.{codes, frame_byte, pad, info_bytes};
 
-use body::part::Part;
+use body::part::prologue_size;
+use layout::cursor::Cursor;
 use plan::step::Step;
 use plan::survey::frame_register;
 use plan::text::StepRecord;
 use steps::set_frame::SetFrameStep;
-use x64::encode::{copy_at, encoded_length};
+use x64::encode::encoded_length;
 
 // How many bytes a step's code has.
 fn code_size(step: Step) -> usize
@@ -39,11 +40,7 @@ fn codes_size(steps: &[StepRecord]) -> usize
     ensures size { result ≡ length (codes 0 (map step_of steps.now)) }
     ensures bound { result ≤ 60 }
 {
-    let mut n = 0;
-    for s in steps {
-        n += code_size(Step::of(*s));
-    }
-    n
+    steps.iter().map(|s| code_size(Step::from(*s))).sum()
 }
 
 fn pad_size(size: usize) -> usize
@@ -73,45 +70,41 @@ fn frame_of(frame: Option<SetFrameStep>) -> u8
     }
 }
 
-// Writes the codes of steps, last to first, at `at`, where there is room, and answers where they end.
-fn write_codes(steps: &[StepRecord], prologue: usize, out: &mut [u8], at: usize) -> usize
-    requires { (AllSound (map step_of steps.now)) × ((prologue ≡ length (bytes (enter (map step_of steps.now)))) × ((prologue < 256) × (at + length (codes 0 (map step_of steps.now)) ≤ length out.old))) }
-    ensures after { out.new ≡ overwritten out.old at (codes 0 (map step_of steps.now)) }
-    ensures end { result ≡ at + length (codes 0 (map step_of steps.now)) }
+// Writes the codes of steps, last to first.
+fn write_codes(steps: &[StepRecord], prologue: usize, out: &mut Cursor)
+    requires sound { AllSound (map step_of steps.now) }
+    requires prologue { (prologue ≡ length (bytes (enter (map step_of steps.now)))) × (prologue < 256) }
+    requires room { HasRoom out.old (codes 0 (map step_of steps.now)) }
+    ensures { out.new ≡ wrote out.old (codes 0 (map step_of steps.now)) }
 {
-    let mut end = at;
-    let mut offset = prologue;
-    let mut i = steps.len();
-    while i > 0 {
-        i -= 1;
-        let step = Step::of(steps[i]);
-        end = step.write_code(offset as u8, out, end);
-        offset -= encoded_length(step.instruction());
+    let mut end = prologue;
+    for s in steps.iter().rev() {
+        let step = Step::from(*s);
+        step.write_code(end as u8, out);
+        end -= encoded_length(step.instruction());
     }
-    end
 }
 
-fn write_pad(size: usize, out: &mut [u8], at: usize) -> usize
-    requires { at + length (pad size) ≤ length out.old }
-    ensures after { out.new ≡ overwritten out.old at (pad size) }
-    ensures end { result ≡ at + length (pad size) }
+fn write_pad(size: usize, out: &mut Cursor)
+    requires { HasRoom out.old (pad size) }
+    ensures { out.new ≡ wrote out.old (pad size) }
 {
-    if size % 4 == 0 {
-        return at;
+    if size % 4 != 0 {
+        out.put(&[0, 0]);
     }
-    copy_at(out, at, &[0, 0])
 }
 
-// Writes the info of a function with these steps at `at`, where there is room, and answers where it ends.
-pub(crate) fn write_info(steps: &[StepRecord], out: &mut [u8], at: usize) -> usize
-    requires { (AllSound (map step_of steps.now)) × ((length steps.now ≤ 10) × (at + length (info_bytes (map step_of steps.now)) ≤ length out.old)) }
-    ensures after { out.new ≡ overwritten out.old at (info_bytes (map step_of steps.now)) }
-    ensures end { result ≡ at + length (info_bytes (map step_of steps.now)) }
+// Writes the info of a function with these steps.
+pub(crate) fn write_info(steps: &[StepRecord], out: &mut Cursor)
+    requires sound { AllSound (map step_of steps.now) }
+    requires few { length steps.now ≤ 10 }
+    requires room { HasRoom out.old (info_bytes (map step_of steps.now)) }
+    ensures { out.new ≡ wrote out.old (info_bytes (map step_of steps.now)) }
 {
-    let prologue = Part::Enter.size(steps);
+    let prologue = prologue_size(steps);
     let size = codes_size(steps);
     let frame = frame_of(frame_register(steps));
-    let header = copy_at(out, at, &[1, prologue as u8, (size / 2) as u8, frame]);
-    let coded = write_codes(steps, prologue, out, header);
-    write_pad(size, out, coded)
+    out.put(&[1, prologue as u8, (size / 2) as u8, frame]);
+    write_codes(steps, prologue, out);
+    write_pad(size, out);
 }

@@ -1,17 +1,18 @@
 // Where the functions of a module start, and how long its code and infos are.
 ghost use Rattle.std.specs.Prelude.{◌≡◌, ℕ, ◌+◌, ◌*◌, ◌^◌, ◌<◌, ◌≤◌, map, length, take, Ok};
-ghost use Rattle.plan.specs.Functions.{functions_in};
+ghost use Rattle.plan.specs.Functions.{text_of, functions_of};
 ghost use Rattle.plan.specs.Layouts.{up, starts, code, infos};
-ghost use Rattle.plan.specs.Verdicts.{counts_verdict};
+ghost use Rattle.plan.specs.Verdicts.{plan_verdict};
 
 use crate::info::info_size;
 use body::function::function_size;
 use plan::check::MAX_FUNCTIONS;
-use plan::text::{Counts, OperationRecord, StepRecord, part};
+use plan::text::Plan;
 
 // Code starts at this RVA, and infos at a multiple of it.
 pub(crate) const FIRST_RVA: usize = 4096;
 
+// The first of `starts`, as many as the plan has functions, are set: there is no heap for a list of just these.
 #[derive(Clone, Copy)]
 pub(crate) struct Layout {
     pub starts: [u32; 64],
@@ -24,7 +25,7 @@ pub(crate) fn up16(x: usize) -> usize
     requires { x < 2 ^ 32 }
     ensures { result ≡ up 16 x }
 {
-    (x + 15) / 16 * 16
+    x.next_multiple_of(16)
 }
 
 // Where the infos start, after so many bytes of code.
@@ -32,37 +33,24 @@ pub(crate) fn info_start(code: usize) -> usize
     requires { code < 2 ^ 32 }
     ensures { result ≡ 4096 + up 4096 code }
 {
-    FIRST_RVA + (code + 4095) / 4096 * 4096
+    FIRST_RVA + code.next_multiple_of(4096)
 }
 
-pub(crate) fn measure(
-    functions: &[Counts],
-    steps: &[StepRecord],
-    operations: &[OperationRecord],
-) -> Layout
-    requires { (counts_verdict functions.now (length steps.now) (length operations.now) ≡ Ok tt) × (length functions.now ≤ 64) }
-    ensures starts { take (length functions.now) result.starts ≡ starts (functions_in functions.now steps.now operations.now) }
-    ensures code { result.code ≡ length (code (functions_in functions.now steps.now operations.now)) }
-    ensures infos { result.infos ≡ length (infos (functions_in functions.now steps.now operations.now)) }
+pub(crate) fn measure(plan: &Plan) -> Layout
+    requires { plan_verdict (text_of plan.now) ≡ Ok tt }
+    ensures starts { take (length plan.now.functions.now) result.starts ≡ starts (functions_of (text_of plan.now)) }
+    ensures code { result.code ≡ length (code (functions_of (text_of plan.now))) }
+    ensures infos { result.infos ≡ length (infos (functions_of (text_of plan.now))) }
     ensures bound { result.code ≤ 200000 }
 {
     let mut starts = [0; MAX_FUNCTIONS];
-    let mut s = 0;
-    let mut o = 0;
-    let mut k = 0;
     let mut at = FIRST_RVA;
     let mut infos = 0;
-    while k < functions.len() {
-        let c = functions[k];
-        let own_steps = part(steps, s, c.steps);
-        let own_operations = part(operations, o, c.operations);
+    for (k, f) in plan.functions().enumerate() {
         let begin = up16(at);
         starts[k] = begin as u32;
-        at = begin + function_size(own_steps, own_operations);
-        infos += info_size(own_steps);
-        s += usize::from(c.steps);
-        o += usize::from(c.operations);
-        k += 1;
+        at = begin + function_size(f);
+        infos += info_size(f.steps);
     }
     Layout {
         starts,

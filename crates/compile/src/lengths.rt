@@ -1,4 +1,4 @@
-// How many bytes of the three buffers compiling writes.
+// How many bytes each of the three buffers has, or compiling writes into it.
 
 #[derive(Clone, Copy, PartialEq, Eq, Debug)]
 pub struct Lengths {

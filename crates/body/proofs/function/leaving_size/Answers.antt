@@ -1,10 +1,6 @@
-use Rattle.std.proofs.Common.{length, sym, ap, ◌∙◌, arith}
-use Rattle.plan.specs.Bodies.{bytes}
-use Rattle.body.proofs.Bytes.{one, none}
+use Rattle.std.proofs.Common.{rules}
+use Rattle.body.proofs.Bytes.{listed_size}
 use Rattle.body.proofs.function.leaving_size.Goals as goal
 
-pub returns-in-Some : goal.returns-in-Some
-returns-in-Some c = record { size = c.encoded_length.ensures.length ∙ ap length (sym (one _) ∙ ap bytes c.in-Some.ensures); bound = c.encoded_length.ensures.bound }
-
-pub returns-in-None : goal.returns-in-None
-returns-in-None c = record { size = ap length (sym none ∙ ap bytes c.in-None.ensures); bound = omega arith }
+pub returns-clause-size : goal.returns-clause-size
+returns-clause-size c = listed_size _ _ c.leaving.ensures _ (search rules)

@@ -8,20 +8,19 @@ pub returns-in_err-check_room : goal.returns-in_err-check_room
 returns-in_err-check_room c =
     let p = err_from_is_err_and c.from_residual-in_err-check_room.result c.from_residual-in_err-check_room.ensures.1 in
     let ok = sym c.in_ok-check.ensures in
-    let n = lengths_are _ _ _ _ _ c.measure-layout.ensures.code c.measure-layout.ensures.infos in
-    let said = sym c.in_err-check_room.ensures in
-    rw (p.1, p.2) (record { answer = sym (compiled_short (text_of c.args.plan.now) ok _ n _ _ _ _ said); code = refl; infos = refl; table = refl })
+    let n = lengths_are (text_of c.args.plan.now) _ _ c.measure-layout.ensures.code c.measure-layout.ensures.infos in
+    rw (p.1, p.2) (record { answer = sym (compiled_short (text_of c.args.plan.now) ok _ n _ _ _ _ (sym c.in_err-check_room.ensures)); code = refl; infos = refl; table = refl })
 
 pub write_module-requires : goal.write_module-requires
 write_module-requires c =
     let ok = sym c.in_ok-check.ensures in
-    let n = lengths_are _ _ _ _ _ c.measure-layout.ensures.code c.measure-layout.ensures.infos in
-    writable (text_of c.args.plan.now) ok _ n _ _ _ (sym c.in_ok-check_room.ensures) _ c.measure-layout.ensures.starts _ c.info_start.ensures c.measure-layout.ensures.bound
+    let n = lengths_are (text_of c.args.plan.now) _ _ c.measure-layout.ensures.code c.measure-layout.ensures.infos in
+    writable (text_of c.args.plan.now) ok _ n _ _ _ (sym c.in_ok-check_room.ensures) _ c.measure-layout.ensures.starts _ c.info_start-rva.ensures c.measure-layout.ensures.bound
 
 pub returns : goal.returns
 returns c =
     let ok = sym c.in_ok-check.ensures in
-    let n = lengths_are _ _ _ _ _ c.measure-layout.ensures.code c.measure-layout.ensures.infos in
+    let n = lengths_are (text_of c.args.plan.now) _ _ c.measure-layout.ensures.code c.measure-layout.ensures.infos in
     record {
       answer = sym (compiled_ok (text_of c.args.plan.now) ok _ n _ _ _ (sym c.in_ok-check_room.ensures));
       code = c.write_module.ensures.code;

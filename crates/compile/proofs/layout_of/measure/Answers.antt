@@ -1,41 +1,56 @@
-use Rattle.std.proofs.Common.{◌^◌, ◌<◌, length, refl, arith, rules}
-use Rattle.plan.proofs.Passes.{lists_start, lists_fit}
-use Rattle.compile.proofs.Laying.{measured_none, measured_on, measured_all, own_sizes}
+use Rattle.std.proofs.Common.{take, sym, refl, ap, ◌∙◌, inl, arith}
+use Rattle.plan.specs.Functions.{text_of}
+use Rattle.plan.proofs.Accepted.{accepted}
+use Rattle.plan.proofs.Passes.{length-functions_in}
+use Rattle.compile.proofs.Laying.{up_fits, measured_none, one_more, measured_on, measured_all}
 use Rattle.compile.proofs.layout_of.measure.Goals as goal
 
 pub loop-k-init : goal.loop-k-init
-loop-k-init c = measured_none _ _ _ _ (lists_start _ _ _ c.requires.0) refl
+loop-k-init c =
+    let t = c.args.plan.now in
+    let n = length-functions_in t.functions.now t.steps.now t.operations.now in
+    let a = accepted (text_of t) c.requires in
+    rw (c.into_iter-k-iterator.ensures.into_iter_gives, c.enumerate-k-items.ensures.source, c.enumerate-k-items.ensures.count, c.functions.ensures)
+    ((tt, tt, inl (omega (arith, n, a.few))), tt, measured_none _ _ a.good (omega (arith, n, a.few)) refl)
 
-pub part-own_steps-requires : goal.part-own_steps-requires
-part-own_steps-requires c = (lists_fit _ _ _ _ _ _ _ c.loop-k-test.true c.loop-k.invariant.lists).0
+pub up16-begin-requires : goal.up16-begin-requires
+up16-begin-requires c = let m = c.loop-k.invariant.2 in omega (arith, m.high, m.count, m.most)
 
-pub part-own_operations-requires : goal.part-own_operations-requires
-part-own_operations-requires c = (lists_fit _ _ _ _ _ _ _ c.loop-k-test.true c.loop-k.invariant.lists).1
+pub overflow_cast-starts : goal.overflow_cast-starts
+overflow_cast-starts c =
+    let m = c.loop-k.invariant.2 in
+    let u = up_fits c.loop-k.at in
+    record { fits = omega (arith, m.high, m.count, m.most, u.1, c.up16-begin.ensures) }
 
-pub function_size-requires : goal.function_size-requires
-function_size-requires c = own_sizes c.loop-k.invariant _ _ _ c.loop-k-test.true c.part-own_steps.ensures c.part-own_operations.ensures
+pub offset_bounds-starts-k : goal.offset_bounds-starts-k
+offset_bounds-starts-k c =
+    let turn = c.in-Some.ensures.steps in
+    let m = c.loop-k.invariant.2 in
+    record { fits = omega (arith, turn.1, one_more m _ _ turn.0, m.most) }
 
-pub info_size-infos-requires : goal.info_size-infos-requires
-info_size-infos-requires c = (own_sizes c.loop-k.invariant _ _ _ c.loop-k-test.true c.part-own_steps.ensures c.part-own_operations.ensures).0
+pub bounds-starts-k : goal.bounds-starts-k
+bounds-starts-k c =
+    let turn = c.in-Some.ensures.steps in
+    let m = c.loop-k.invariant.2 in
+    omega (arith, turn.1, one_more m _ _ turn.0, m.most)
 
-pub overflow_add-s : goal.overflow_add-s
-overflow_add-s c =
-    let fit = lists_fit c.args.functions.now c.args.steps.now c.args.operations.now c.loop-k.k c.loop-k.s c.loop-k.o (record { steps = 0; operations = 0 }) c.loop-k-test.true c.loop-k.invariant.lists in
-    let long : length c.args.steps.now < 2 ^ 64 = search rules in
-    record { fits = omega (arith, fit.0, c.from-s.ensures, long) }
+pub overflow_add-at : goal.overflow_add-at
+overflow_add-at c =
+    let m = c.loop-k.invariant.2 in
+    let u = up_fits c.loop-k.at in
+    record { fits = omega (arith, m.high, m.count, m.most, u.1, c.up16-begin.ensures, c.function_size.ensures.bound) }
 
-pub overflow_add-o : goal.overflow_add-o
-overflow_add-o c =
-    let fit = lists_fit c.args.functions.now c.args.steps.now c.args.operations.now c.loop-k.k c.loop-k.s c.loop-k.o (record { steps = 0; operations = 0 }) c.loop-k-test.true c.loop-k.invariant.lists in
-    let wide : length c.args.operations.now < 2 ^ 64 = search rules in
-    record { fits = omega (arith, fit.1, c.from-o.ensures, wide) }
+pub overflow_add-infos : goal.overflow_add-infos
+overflow_add-infos c = let m = c.loop-k.invariant.2 in record { fits = omega (arith, m.few, m.count, m.most, c.info_size-infos.ensures.bound) }
 
 pub loop-k-preserved : goal.loop-k-preserved
 loop-k-preserved c =
-    measured_on c.loop-k.invariant _ _ _ _ _ _ _ _ c.loop-k-test.true c.requires.1 c.part-own_steps.ensures c.part-own_operations.ensures c.from-s.ensures c.from-o.ensures
-    c.up16-begin.ensures c.function_size.ensures.size c.function_size.ensures.bound c.info_size-infos.ensures.size c.info_size-infos.ensures.bound
+    let turn = c.in-Some.ensures.steps in
+    let m = measured_on c.loop-k.invariant.2 _ _ turn.0 _ _ _ c.up16-begin.ensures c.function_size.ensures.size c.function_size.ensures.bound c.info_size-infos.ensures.size c.info_size-infos.ensures.bound in
+    (c.in-Some.ensures.goes.keeps, tt, rw (turn.1, turn.2) m)
 
 pub returns : goal.returns
 returns c =
-    let p = measured_all c.loop-k.invariant c.loop-k-test.false c.requires.1 in
-    record { starts = p.0; code = p.1; infos = p.2; bound = p.3 }
+    let n = length-functions_in c.args.plan.now.functions.now c.args.plan.now.steps.now c.args.plan.now.operations.now in
+    let p = measured_all c.loop-k.invariant.2 c.in-None.ensures.steps.0.0 in
+    record { starts = ap (λ k. take k c.loop-k.starts) (sym n) ∙ p.0; code = p.1; infos = p.2; bound = p.3 }
