@@ -173,9 +173,17 @@ all_good [] h = refl
 all_good (Ok x ∷ rs) h = good_of x rs (gathered rs) (all_good rs) h
 all_good (Err e ∷ rs) h = absurd (false≢true h)
 
+pub good_is : (r : Result (List Code) InfoFault) → is_ok r ≡ true → r ≡ Ok (listed r)
+good_is (Ok cs) h = refl
+good_is (Err e) h = absurd (false≢true h)
+
 pub good_first : (cs : List Code) (r : Result Code InfoFault) (rs : List (Result Code InfoFault)) → map Ok cs ≡ r ∷ rs → (c : Code) × (rest : List Code) × (cs ≡ c ∷ rest) × (r ≡ Ok c) × (rs ≡ map Ok rest)
 good_first [] r rs e = absurd (cc)
 good_first (c ∷ rest) r rs e = (c, rest, refl, (let d = sym e in cc), (let d = sym e in cc))
+
+pub good_none : (cs : List Code) → map {B = Result Code InfoFault} Ok cs ≡ [] → cs ≡ []
+good_none [] e = refl
+good_none (c ∷ cs) e = absurd (cc)
 
 pub good_length : (cs : List Code) → length (map {B = Result Code InfoFault} Ok cs) ≡ length cs
 good_length cs = length-map {B = Result Code InfoFault} cs Ok

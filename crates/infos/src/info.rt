@@ -19,6 +19,7 @@ pub enum Tail<'a> {
 // An info as its header says, with its slots as a part of the area that it was read from.
 #[derive(Clone, Copy)]
 pub struct Info<'a> {
+    // As the header has them; the tail says what they mean.
     pub flags: u8,
     pub prologue: u8,
     pub count: u8,

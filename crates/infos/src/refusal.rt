@@ -40,7 +40,7 @@ impl InfoRefusal {
     }
 }
 
-// A refusal outside codes.
+// A refusal outside codes; by hand, since it adds what the reason lacks.
 impl From<InfoReason> for InfoRefusal {
     ghost from_gives = { λ e r. r ≡ record { reason = e; slot = None } };
 
@@ -84,6 +84,7 @@ impl Numbered for ListRefusal {
     }
 }
 
+// By hand: a derived one wants a message for each case, and these refusals are numbers.
 impl From<InfoRefusal> for ListRefusal {
     ghost from_gives = { λ e r. r ≡ BadInfo e };
 

@@ -44,12 +44,7 @@ fn check_functions(area: InfoArea<'_>, entries: &[Entry]) -> Result<usize, ReadR
 }
 
 // Writes the steps of an entry's function from `at` on, and answers how many there are.
-fn write_function(
-    area: InfoArea<'_>,
-    entry: Entry,
-    records: &mut [StepRecord],
-    at: usize,
-) -> usize
+fn write_function(area: InfoArea<'_>, entry: Entry, records: &mut [StepRecord], at: usize) -> usize
     requires { (is_ok (function_steps area.bytes.now area.start.0 entry) ≡ true) × (at + length (found (function_steps area.bytes.now area.start.0 entry)) ≤ length records.old) }
     ensures after { records.new ≡ take at records.old ++ (found (function_steps area.entry.bytes.now area.entry.start.0 entry) ++ drop (at + length (found (function_steps area.entry.bytes.now area.entry.start.0 entry))) records.old) }
     ensures count { result ≡ length (found (function_steps area.entry.bytes.now area.entry.start.0 entry)) }
@@ -105,12 +100,7 @@ pub fn read_back(
     if module.entries.len() > functions.len() || count > steps.len() {
         return Err(ReadRefusal::TooFewRecords);
     }
-    write_functions(
-        module.area,
-        module.entries,
-        functions,
-        steps,
-    );
+    write_functions(module.area, module.entries, functions, steps);
     Ok(Lengths {
         functions: module.entries.len(),
         steps: count,

@@ -35,6 +35,7 @@ impl Numbered for ReadRefusal {
     }
 }
 
+// By hand: a derived one wants a message for each case, and these refusals are numbers.
 impl From<TableRefusal> for ReadRefusal {
     ghost from_gives = { λ e r. r ≡ BadModule e };
 
@@ -43,6 +44,7 @@ impl From<TableRefusal> for ReadRefusal {
     }
 }
 
+// By hand, as the one above.
 impl From<InfoRefusal> for ReadRefusal {
     ghost from_gives = { λ e r. r ≡ BadInfo e };
 

@@ -1,19 +1,15 @@
-use Rattle.std.proofs.Common.{◌≡◌, ◌-◌, ◌*◌, ◌≤◌, List, length, drop, Ok}
+use Rattle.std.proofs.Common.{◌≡◌, ◌+◌, ◌≤◌, List, map, length, Ok}
+use Rattle.infos.specs.Codings.{codes_left}
 use Rattle.infos.specs.Infos.{viewed}
 use Rattle.infos.specs.declared.code.Code.{Code}
-use Rattle.readback.proofs.Progresses.{Progress}
-use Rattle.infos.proofs.Slots.{Left}
-use Rattle.plan.specs.declared.text.StepRecord.{StepRecord}
-use Rattle.readback.specs.Readings.{codes_in, steps_of_codes}
+use Rattle.infos.proofs.Outcomes.{more}
+use Rattle.readback.specs.Readings.{counted_in, steps_in, steps_of_codes}
 use Rattle.readback.proofs.step.count_steps.Given as goal
 
-abbrev pub invariant-loop-slot : goal.invariant-loop-slot
-invariant-loop-slot l =
+-- the codes that are left, and what their steps count
+abbrev pub invariant-loop-code : goal.invariant-loop-code
+invariant-loop-code l =
     let i = viewed l.info in
-    (2 * l.slot ≤ length i.slots) × (l.n ≤ l.slot)
-    × ((s : Progress) × (done : List Code) × (ss : List StepRecord) × (length ss ≡ l.n)
-    × Left (codes_in i) i.frame_register s l.slot (drop (2 * l.slot) i.slots) done
-    × (steps_of_codes i.frame_register i.frame_offset done ≡ Ok ss))
-
-abbrev pub decreases-loop-slot : goal.decreases-loop-slot
-decreases-loop-slot l = length (viewed l.info).slots - l.slot
+    (goal.iterator-loop-code).can_next l.code-iterator × (goal.iterator-loop-code).is_finite l.code-iterator
+    × ((rest : List Code) × (codes_left l.code-iterator ≡ map Ok rest) × (l.n + length rest ≤ 255)
+    × (counted_in (steps_in i) ≡ more l.n (counted_in (steps_of_codes i.frame_register i.frame_offset rest))))

@@ -1,80 +1,85 @@
-use Rattle.std.proofs.Common.{◌≡◌, ◌+◌, ◌-◌, ◌*◌, ◌≤◌, [], ◌∷◌, ◌++◌, length, drop, set, sym, ap, ◌∙◌, arith, rules}
-use Rattle.std.proofs.lemmas.List.{length-drop, take-append-drop}
+use Rattle.std.proofs.Common.{◌≡◌, ◌+◌, ◌-◌, ◌≤◌, ◌∷◌, [], ◌++◌, length, drop, set, sym, refl, ap, ◌∙◌, ⊎_elim, arith}
+use Rattle.std.specs.Iterator.Adapters.{zip_first, zip_second, rev_source}
+use Rattle.std.proofs.lemmas.List.{length-append, append-nil, append_assoc, take-append-drop}
 use Rattle.infos.specs.Codes.{bind}
+use Rattle.infos.specs.Codings.{codes_left}
 use Rattle.infos.specs.Infos.{viewed}
-use Rattle.infos.proofs.Slots.{at_place, start, all_decode, ended, further}
-use Rattle.readback.specs.Readings.{steps_of_codes, steps_in, found}
-use Rattle.readback.proofs.Passes.{decoded-slot, no_steps, codes_good, is_step, one_more, put_before}
+use Rattle.infos.specs.Refusals.{told as heard}
+use Rattle.infos.specs.Sequences.{gathered}
+use Rattle.infos.proofs.Outcomes.{good_first, good_none, first_slot}
+use Rattle.readback.specs.Readings.{steps_of_codes, steps_in, codes_in, found}
+use Rattle.readback.proofs.Passes.{codes_start, codes_good, found_is, step_first, put_before, no_steps, no_items, not_ok, ok_same}
 use Rattle.readback.proofs.step.write_steps.Goals as goal
 
-pub loop-slot-init : goal.loop-slot-init
-loop-slot-init c = (omega arith, (_, [], [], omega arith, start _ _ _, no_steps _ _, sym (take-append-drop c.args.end c.args.records.now)))
+pub loop-at-init : goal.loop-at-init
+loop-at-init c =
+    let i = viewed c.args.info.now in
+    let old = c.args.records.now in
+    let same = c.into_iter-at-iterator.ensures.into_iter_gives in
+    let first : rev_source (zip_first c.into_iter-at-iterator.result) ≡ record { start = 0; end = c.args.end } = ap (λ z. rev_source (zip_first z)) same ∙ ap rev_source c.zip-at-items.ensures.first ∙ c.rev.ensures.source in
+    let second : gathered (codes_left (zip_second c.into_iter-at-iterator.result)) ≡ codes_in i = ap (λ z. gathered (codes_left (zip_second z))) same ∙ ap (λ it. gathered (codes_left it)) c.zip-at-items.ensures.second ∙ c.codes.ensures in
+    let s = codes_start i (zip_second c.into_iter-at-iterator.result) second (codes_good (codes_in i) _ c.requires.readable) in
+    let steps = sym (ap (λ r. bind r (steps_of_codes i.frame_register i.frame_offset)) s.2) ∙ found_is (steps_in i) c.requires.readable in
+    rw first ((tt, tt), tt, refl, (s.0, found (steps_in i), [], s.1, steps, sym (append-nil (found (steps_in i))), omega arith, sym (take-append-drop c.args.end old)))
 
 pub returns-in_default : goal.returns-in_default
 returns-in_default c =
-    let i = c.loop-slot.slot in
-    let ss = c.args.info.slots.now in
-    let h : 2 ≤ length (drop (2 * i) ss) = omega (arith, length-drop (2 * i) ss) in
-    absurd (all_decode c.loop-slot.invariant.1.4 (codes_good _ _ c.requires.readable.1) h _ (sym (at_place ss i c.loop-slot-test.true) ∙ sym c.in_default.ensures.value))
+    let inv = c.loop-at.invariant.3 in
+    let s = c.in-Some.ensures.steps in
+    let f = good_first inv.0 _ _ (sym inv.3 ∙ s.1) in
+    let e = sym (ap heard c.in_default.is) ∙ f.3 in
+    absurd (cc)
 
 pub step_of-requires : goal.step_of-requires
 step_of-requires c =
-    let i = c.loop-slot.slot in
-    let ss = c.args.info.slots.now in
-    let e : c.in-Ok.code.slot ≡ i = decoded-slot i (drop (2 * i) ss) c.in-Ok.code c.in-Ok.used (sym (at_place ss i c.loop-slot-test.true) ∙ sym c.in-Ok.ensures.value) in
-    omega (arith, e, c.requires.readable.0)
+    let it = zip_second c.loop-at.at-iterator in
+    let left = codes_left (zip_second c.next.new.self) in
+    let s = c.in-Some.ensures.steps in
+    let slot : c.in-Ok.code.slot ≡ it.slot = first_slot it c.in-Ok.code left (s.1 ∙ ap (λ r. heard r ∷ left) c.in-Ok.is) in
+    omega (arith, slot, it.few)
 
 pub returns-in_default-step_of : goal.returns-in_default-step_of
 returns-in_default-step_of c =
-    let i = c.loop-slot.slot in
-    let inv = c.loop-slot.invariant.1 in
-    let ss = c.args.info.slots.now in
-    let said = c.in-Ok.ensures in
-    let h : 2 ≤ length (drop (2 * i) ss) = omega (arith, length-drop (2 * i) ss) in
-    absurd (is_step inv.4 _ _ c.requires.readable.1 inv.2 inv.5 h _ _ said.within.0 (sym (at_place ss i c.loop-slot-test.true) ∙ sym said.value) _ (sym c.in_default-step_of.ensures))
+    let i = viewed c.args.info.now in
+    let inv = c.loop-at.invariant.3 in
+    let s = c.in-Some.ensures.steps in
+    let f = good_first inv.0 _ _ (sym inv.3 ∙ s.1) in
+    let e = sym (ap heard c.in-Ok.is) ∙ f.3 in
+    let same : f.0 ≡ c.in-Ok.code = cc in
+    let codes : inv.0 ≡ c.in-Ok.code ∷ f.1 = f.2 ∙ ap (λ x. x ∷ f.1) same in
+    let w = step_first i.frame_register i.frame_offset c.in-Ok.code f.1 inv.1 (sym (ap (steps_of_codes i.frame_register i.frame_offset) codes) ∙ inv.4) in
+    absurd (not_ok _ w.0 (c.in_default-step_of.ensures ∙ w.2))
 
-pub overflow_sub-at : goal.overflow_sub-at
-overflow_sub-at c =
-    let i = c.loop-slot.slot in
-    let inv = c.loop-slot.invariant.1 in
-    let ss = c.args.info.slots.now in
-    let said = c.in-Ok.ensures in
-    let h : 2 ≤ length (drop (2 * i) ss) = omega (arith, length-drop (2 * i) ss) in
-    let more = one_more inv.4 _ _ c.requires.readable.1 inv.2 inv.5 h _ _ said.within.0 (sym (at_place ss i c.loop-slot-test.true) ∙ sym said.value) _ (sym c.in-Ok-step_of.ensures) in
-    let few : length inv.2 + 1 ≤ length (found (steps_in (viewed c.args.info))) = more.3 in
-    omega (arith, few, inv.3, c.requires.room.0)
-
-pub bounds-records-at : goal.bounds-records-at
-bounds-records-at c =
-    let inv = c.loop-slot.invariant.1 in
-    let size : length c.loop-slot.records ≡ length c.args.records.now = search rules in
-    let more : 1 ≤ c.loop-slot.at = overflow_sub-at c in
-    omega (arith, more, inv.3, c.requires.room.1, size)
-
-pub loop-slot-preserved : goal.loop-slot-preserved
-loop-slot-preserved c =
-    let i = c.loop-slot.slot in
-    let inv = c.loop-slot.invariant.1 in
-    let ss = c.args.info.slots.now in
-    let said = c.in-Ok.ensures in
-    let h : 2 ≤ length (drop (2 * i) ss) = omega (arith, length-drop (2 * i) ss) in
-    let more = one_more inv.4 _ _ c.requires.readable.1 inv.2 inv.5 h _ _ said.within.0 (sym (at_place ss i c.loop-slot-test.true) ∙ sym said.value) _ (sym c.in-Ok-step_of.ensures) in
-    let at = c.loop-slot.at in
-    let old = c.args.records.now in
+pub loop-at-preserved : goal.loop-at-preserved
+loop-at-preserved c =
+    let i = viewed c.args.info.now in
+    let inv = c.loop-at.invariant.3 in
+    let s = c.in-Some.ensures.steps in
+    let f = good_first inv.0 _ _ (sym inv.3 ∙ s.1) in
+    let e = sym (ap heard c.in-Ok.is) ∙ f.3 in
+    let same : f.0 ≡ c.in-Ok.code = cc in
+    let codes : inv.0 ≡ c.in-Ok.code ∷ f.1 = f.2 ∙ ap (λ x. x ∷ f.1) same in
+    let w = step_first i.frame_register i.frame_offset c.in-Ok.code f.1 inv.1 (sym (ap (steps_of_codes i.frame_register i.frame_offset) codes) ∙ inv.4) in
     let step = c.in-Ok-step_of.step in
-    let some : 1 ≤ at = overflow_sub-at c in
-    let below : at ≤ length old = omega (arith, inv.3, c.requires.room.1) in
-    let put = put_before old (inv.2 ++ drop c.args.end old) (at - 1) at step (omega arith) below in (
-      said.within.1,
-      (more.0, inv.1 ++ c.in-Ok.code ∷ [], step ∷ inv.2, omega (arith, inv.3, some), further ss i c.in-Ok.used more.1, more.2, ap (λ l. set l (at - 1) step) inv.6 ∙ put),
-    )
+    let own : step ≡ w.0 = ok_same step w.0 (c.in-Ok-step_of.ensures ∙ w.2) in
+    let old = c.args.records.now in
+    let above = (rev_source (zip_first c.loop-at.at-iterator)).end in
+    let place = (rev_source (zip_first c.next.new.self)).end in
+    let below : above ≤ length old = omega (arith, inv.6, c.requires.room.1) in
+    let put = put_before old (inv.2 ++ drop c.args.end old) place above step s.0.1.2 below in
+    let all : found (steps_in i) ≡ w.1 ++ (step ∷ inv.2) = inv.5 ∙ ap (λ l. l ++ inv.2) w.4 ∙ append_assoc w.1 (w.0 ∷ []) inv.2 ∙ ap (λ x. w.1 ++ (x ∷ inv.2)) (sym own) in
+    let size : place + length (step ∷ inv.2) ≡ c.args.end = omega (arith, inv.6, s.0.1.2) in
+    let written = ap (λ k. set c.loop-at.records k step) s.0.1.1 ∙ ap (λ l. set l place step) inv.7 ∙ put in
+    ((tt, tt), tt, s.0.0 ∙ c.loop-at.invariant.2, (f.1, w.1, step ∷ inv.2, f.4, w.3, all, size, written))
 
 pub returns : goal.returns
 returns c =
-    let inv = c.loop-slot.invariant.1 in
-    let info = c.args.info in
-    let old = c.args.records.now in
-    let e = ended inv.4 (omega (arith, length-drop (2 * c.loop-slot.slot) info.slots.now)) in
-    let all : found (steps_in (viewed info)) ≡ inv.2 = ap (λ r. found (bind r (steps_of_codes info.frame_register info.frame_offset))) e ∙ ap found inv.5 in
-    let at : c.args.end - length inv.2 ≡ c.loop-slot.at = omega (arith, inv.3) in
-    rw (all, at) inv.6
+    let i = viewed c.args.info.now in
+    let inv = c.loop-at.invariant.3 in
+    let places = rev_source (zip_first c.loop-at.at-iterator) in
+    let none : inv.1 ≡ [] =
+    ⊎_elim (λ a. no_items inv.1 (omega (arith, a.1.1.0, c.loop-at.invariant.2, ap length inv.5, length-append inv.1 inv.2, inv.6, c.requires.room.0)))
+    (λ b. sym (ok_same [] inv.1 (sym (no_steps i.frame_register i.frame_offset) ∙ ap (steps_of_codes i.frame_register i.frame_offset) (sym (good_none inv.0 (sym inv.3 ∙ b.1.0))) ∙ inv.4))) c.in-None.ensures.steps in
+    let all : found (steps_in i) ≡ inv.2 = inv.5 ∙ ap (λ l. l ++ inv.2) none in
+    let at : c.args.end - length inv.2 ≡ places.end = omega (arith, inv.6) in
+    rw (all, at) inv.7
