@@ -1,4 +1,4 @@
-// Lists, and what their parts can be read as.
+// Lists, what their parts can be read as, and writing them.
 use layout::address::Address;
 use limit::window::Window;
 use memory::range::DumpRange;
@@ -6,7 +6,7 @@ use protocol::bad::Bad;
 use protocol::number::number;
 use protocol::parts::Parts;
 use protocol::record::record;
-use std::alloc::Global;
+use std::alloc::{AllocError, Global};
 
 pub trait Notation: Drop {
     fn read(text: &[u8]) -> Result<Self, Bad>
@@ -21,6 +21,26 @@ pub fn list<T: Notation>(heap: Global, text: &[u8]) -> Result<Vec<T>, Bad> {
         all.push(T::read(part)?)?;
     }
     Ok(all)
+}
+
+// The same of what `push` writes for each item.
+pub fn push_list<T, F: FnMut(&mut Vec<u8>, &T) -> Result<(), AllocError>>(
+    line: &mut Vec<u8>,
+    items: &[T],
+    mut push: F,
+) -> Result<(), AllocError>
+    requires { F.IsAlwaysCallable push }
+{
+    if items.is_empty() {
+        return line.extend_from_slice(b"-");
+    }
+    for (i, item) in items.iter().enumerate() {
+        if i > 0 {
+            line.extend_from_slice(b",")?;
+        }
+        push(line, item)?;
+    }
+    Ok(())
 }
 
 impl Notation for Address {

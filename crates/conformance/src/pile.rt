@@ -1,6 +1,6 @@
-// Memories under layers, and the jobs that run on any of them. Each number of layers is a type of its own, so
-// each has a function of its own, which lays one layer and leaves the others to the next.
-ghost use Rattle.std.specs.Prelude.{◌≤◌, length};
+// Memories under layers, and the jobs that run on any of them. Each number of layers makes a type of its own, so a step lays
+// one layer and leaves the others to the step for one layer less.
+ghost use Rattle.std.specs.Prelude.{ℕ, ◌+◌, ◌≤◌, length};
 
 use crate::stop::Stop;
 use crate::world::{Layer, Source, World};
@@ -8,6 +8,7 @@ use limit::layer::Limit;
 use memory::flat::FlatImage;
 use memory::reading::Memory;
 use memory::sparse::SparseDump;
+use std::marker::PhantomData;
 
 // What a request does with its memory; it writes the answer at the end of `line`.
 pub trait Job {
@@ -23,73 +24,68 @@ fn laid<M: Memory + Drop>(below: M, layer: &Layer) -> Result<Limit<M>, Stop> {
     Ok(limit)
 }
 
-fn under_1<M: Memory + Drop, J: Job>(
-    mut memory: M,
-    layers: &[Layer],
-    job: &J,
-    line: &mut Vec<u8>,
-) -> Result<(), Stop>
-    requires { length layers.now ≤ 1 }
-{
-    match layers {
-        [layer] => job.run(&mut laid(memory, layer)?, line),
-        _ => job.run(&mut memory, line),
+// How many layers may still come. A trait object would not do: a recursion that makes one is not covered by the check.
+trait Depth {
+    ghost LAYERS: { ℕ };
+
+    // Lays the layers over the memory, and runs the job on what they make.
+    fn run<M: Memory + Drop, J: Job>(
+        memory: M,
+        layers: &[Layer],
+        job: &J,
+        line: &mut Vec<u8>,
+    ) -> Result<(), Stop>
+        requires { length layers.now ≤ LAYERS };
+}
+
+// None.
+struct Top;
+
+// One more than `D` takes.
+struct Over<D>(PhantomData<D>);
+
+impl Depth for Top {
+    ghost LAYERS = { 0 };
+
+    fn run<M: Memory + Drop, J: Job>(
+        mut memory: M,
+        _layers: &[Layer],
+        job: &J,
+        line: &mut Vec<u8>,
+    ) -> Result<(), Stop> {
+        job.run(&mut memory, line)
     }
 }
 
-fn under_2<M: Memory + Drop, J: Job>(
-    mut memory: M,
-    layers: &[Layer],
-    job: &J,
-    line: &mut Vec<u8>,
-) -> Result<(), Stop>
-    requires { length layers.now ≤ 2 }
-{
-    match layers {
-        [layer, rest @ ..] => under_1(laid(memory, layer)?, rest, job, line),
-        [] => job.run(&mut memory, line),
+impl<D: Depth> Depth for Over<D> {
+    ghost LAYERS = { D.LAYERS + 1 };
+
+    fn run<M: Memory + Drop, J: Job>(
+        mut memory: M,
+        layers: &[Layer],
+        job: &J,
+        line: &mut Vec<u8>,
+    ) -> Result<(), Stop> {
+        match layers {
+            [layer, rest @ ..] => D::run(laid(memory, layer)?, rest, job, line),
+            [] => job.run(&mut memory, line),
+        }
     }
 }
 
-fn under_3<M: Memory + Drop, J: Job>(
-    mut memory: M,
-    layers: &[Layer],
-    job: &J,
-    line: &mut Vec<u8>,
-) -> Result<(), Stop>
-    requires { length layers.now ≤ 3 }
-{
-    match layers {
-        [layer, rest @ ..] => under_2(laid(memory, layer)?, rest, job, line),
-        [] => job.run(&mut memory, line),
-    }
-}
-
-fn under_4<M: Memory + Drop, J: Job>(
-    mut memory: M,
-    layers: &[Layer],
-    job: &J,
-    line: &mut Vec<u8>,
-) -> Result<(), Stop>
-    requires { length layers.now ≤ 4 }
-{
-    match layers {
-        [layer, rest @ ..] => under_3(laid(memory, layer)?, rest, job, line),
-        [] => job.run(&mut memory, line),
-    }
-}
+// At most four layers.
+type Four = Over<Over<Over<Over<Top>>>>;
 
 // Builds the memory from its source up, and runs the job on it.
 pub fn on_memory<J: Job>(world: &World, job: &J, line: &mut Vec<u8>) -> Result<(), Stop> {
     match &world.source {
         Source::Flat { start, bytes } => {
             let image = FlatImage::new(*start, bytes.as_slice())?;
-            under_4(image, world.layers.as_slice(), job, line)
+            Four::run(image, world.layers.as_slice(), job, line)
         }
         Source::Sparse { ranges, bytes } => {
-            let mut dump = SparseDump::empty();
-            dump.load(ranges.as_slice(), bytes.as_slice())?;
-            under_4(dump, world.layers.as_slice(), job, line)
+            let dump = SparseDump::new(ranges.as_slice(), bytes.as_slice())?;
+            Four::run(dump, world.layers.as_slice(), job, line)
         }
     }
 }

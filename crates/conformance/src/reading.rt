@@ -1,5 +1,5 @@
 // The request `read MEMORY ADDRESSES`.
-use crate::list::{Notation, list};
+use crate::list::{list, push_list};
 use crate::pile::{Job, on_memory};
 use crate::stop::Stop;
 use crate::world::World;
@@ -30,17 +30,10 @@ fn push_read(line: &mut Vec<u8>, read: Result<u8, Lacking>) -> Result<(), AllocE
 
 impl Job for Reading {
     fn run<M: Memory>(&self, memory: &mut M, line: &mut Vec<u8>) -> Result<(), Stop> {
-        if self.addresses.is_empty() {
-            line.extend_from_slice(b"ok -")?;
-            return Ok(());
-        }
         line.extend_from_slice(b"ok ")?;
-        for (i, at) in self.addresses.iter().enumerate() {
-            if i > 0 {
-                line.extend_from_slice(b",")?;
-            }
-            push_read(line, memory.read(*at))?;
-        }
+        push_list(line, self.addresses.as_slice(), |line, at| {
+            push_read(line, memory.read(*at))
+        })?;
         Ok(())
     }
 }

@@ -1,4 +1,5 @@
 // The request `readback TABLE START AREA`.
+use crate::list::push_list;
 use crate::short::rva;
 use crate::stop::Stop;
 use layout::address::{Address, Rva};
@@ -8,26 +9,19 @@ use protocol::parts::Parts;
 use protocol::write::{push_decimal, push_hex};
 use readback::read::read_back;
 use std::alloc::{AllocError, Global};
+use tables::area::InfoArea;
 use tables::entry::Entry;
 use tables::load::load_table;
-use tables::module::{MAX_ENTRIES, Module};
+use tables::module::{Extent, MAX_ENTRIES, Module};
 
 // An info has at most 255 slots, and a step takes one or more.
 const MAX_STEPS: usize = 255;
 
-fn push_counts(line: &mut Vec<u8>, functions: &[Counts]) -> Result<(), AllocError> {
-    if functions.is_empty() {
-        return line.extend_from_slice(b"-");
-    }
-    for (i, counts) in functions.iter().enumerate() {
-        if i > 0 {
-            line.extend_from_slice(b",")?;
-        }
-        push_decimal(line, u128::from(counts.steps))?;
-        line.extend_from_slice(b".")?;
-        push_decimal(line, u128::from(counts.operations))?;
-    }
-    Ok(())
+// `steps.operations`
+fn push_counts(line: &mut Vec<u8>, counts: Counts) -> Result<(), AllocError> {
+    push_decimal(line, u128::from(counts.steps))?;
+    line.extend_from_slice(b".")?;
+    push_decimal(line, u128::from(counts.operations))
 }
 
 // `kind.register.number`
@@ -39,21 +33,8 @@ fn push_step(line: &mut Vec<u8>, step: StepRecord) -> Result<(), AllocError> {
     push_hex(line, u128::from(step.number))
 }
 
-fn push_steps(line: &mut Vec<u8>, steps: &[StepRecord]) -> Result<(), AllocError> {
-    if steps.is_empty() {
-        return line.extend_from_slice(b"-");
-    }
-    for (i, step) in steps.iter().enumerate() {
-        if i > 0 {
-            line.extend_from_slice(b",")?;
-        }
-        push_step(line, *step)?;
-    }
-    Ok(())
-}
-
-// The entries of a table in a module of this size at base 0.
-fn entries_of(heap: Global, table: &[u8], size: u64) -> Result<Vec<Entry>, Stop> {
+// The entries of a table in a module that lies here.
+fn entries_of(heap: Global, table: &[u8], extent: Extent) -> Result<Vec<Entry>, Stop> {
     let none = Entry {
         begin: Rva(0),
         end: Rva(0),
@@ -61,7 +42,7 @@ fn entries_of(heap: Global, table: &[u8], size: u64) -> Result<Vec<Entry>, Stop>
     };
     let room = (table.len() / 12).min(MAX_ENTRIES);
     let mut entries = vec![in heap; none; room]?;
-    load_table(table, Address(0), size, entries.as_mut_slice())?;
+    load_table(table, extent, entries.as_mut_slice())?;
     Ok(entries)
 }
 
@@ -76,21 +57,23 @@ fn push_module(heap: Global, module: &Module, line: &mut Vec<u8>) -> Result<(), 
         register: 0,
         number: 0,
     };
-    let most = (module.area.len() / 2).min(MAX_STEPS);
+    let most = (module.area.bytes.len() / 2).min(MAX_STEPS);
     let count = module.entries.len();
     let mut functions = vec![in heap; no_counts; count]?;
     let mut steps = vec![in heap; no_step; count.saturating_mul(most)]?;
     let lengths = read_back(module, functions.as_mut_slice(), steps.as_mut_slice())?;
     line.extend_from_slice(b"ok ")?;
-    push_counts(
-        line,
-        functions
-            .as_slice()
-            .get(0..lengths.functions)
-            .unwrap_or(&[]),
-    )?;
+    let functions = functions.as_slice().get(..lengths.functions);
+    push_list(line, functions.unwrap_or(&[]), |line, counts| {
+        push_counts(line, *counts)
+    })?;
     line.extend_from_slice(b" ")?;
-    push_steps(line, steps.as_slice().get(0..lengths.steps).unwrap_or(&[]))?;
+    let steps = steps.as_slice().get(..lengths.steps);
+    push_list(
+        line,
+        steps.unwrap_or(&[]),
+        |line, step| push_step(line, *step),
+    )?;
     Ok(())
 }
 
@@ -101,13 +84,18 @@ pub fn read_back_request(heap: Global, mut fields: Parts, line: &mut Vec<u8>) ->
     fields.end()?;
     // The module ends with its infos.
     let size = u64::from(start.0).saturating_add(area.len() as u64);
-    let entries = entries_of(heap, table.as_slice(), size)?;
-    let module = Module {
+    let extent = Extent {
         base: Address(0),
         size,
+    };
+    let entries = entries_of(heap, table.as_slice(), extent)?;
+    let module = Module {
+        extent,
         entries: entries.as_slice(),
-        area: area.as_slice(),
-        area_start: start,
+        area: InfoArea {
+            bytes: area.as_slice(),
+            start,
+        },
     };
     push_module(heap, &module, line)
 }

@@ -7,7 +7,6 @@ use crate::tabling::table;
 use crate::viewing::info;
 use protocol::bad::Bad;
 use protocol::parts::Parts;
-use protocol::write::push_decimal;
 use std::alloc::Global;
 use std::io;
 use std::io::{BufRead, BufReader, BufWriter, Write};
@@ -35,24 +34,9 @@ fn request(heap: Global, text: &[u8], line: &mut Vec<u8>) -> Result<(), Stop> {
 // The answer to a request, in place of what `line` held.
 fn answer(heap: Global, text: &[u8], line: &mut Vec<u8>) -> io::Result<()> {
     line.clear();
-    match request(heap, text, line) {
-        Ok(()) => {}
-        Err(Stop::Refused(number)) => {
-            line.clear();
-            line.extend_from_slice(b"refused ")?;
-            push_decimal(line, u128::from(number))?;
-        }
-        Err(Stop::RefusedAt(number, slot)) => {
-            line.clear();
-            line.extend_from_slice(b"refused ")?;
-            push_decimal(line, u128::from(number))?;
-            line.extend_from_slice(b" ")?;
-            push_decimal(line, u128::from(slot))?;
-        }
-        Err(Stop::Bad(bad)) => {
-            line.clear();
-            write!(line, "bad {bad}")?;
-        }
+    if let Err(stop) = request(heap, text, line) {
+        line.clear();
+        write!(line, "{stop}")?;
     }
     line.extend_from_slice(b"\n")?;
     Ok(())

@@ -1,4 +1,4 @@
-// What ends a request without an answer of its own.
+// What ends a request without an answer of its own, and how the answer says it.
 use infos::refusal::{InfoRefusal, ListRefusal, OUTSIDE_CODES};
 use layout::refusal::Numbered;
 use limit::window::WindowRefusal;
@@ -8,21 +8,29 @@ use protocol::bad::Bad;
 use readback::refusal::ReadRefusal;
 use std::alloc::AllocError;
 use tables::refusal::TableRefusal;
+use thiserror::Error;
 
-#[derive(Clone, Copy)]
+#[derive(Clone, Copy, Debug, Error)]
 pub enum Stop {
     // The line cannot be read.
-    Bad(Bad),
-    // A call was refused, with this number.
-    Refused(u16),
-    // An info was refused, with this number, at this slot.
-    RefusedAt(u16, u16),
-}
-
-impl From<Bad> for Stop {
-    fn from(bad: Bad) -> Stop {
-        Stop::Bad(bad)
-    }
+    #[error("bad {0}")]
+    Bad(#[from] Bad),
+    // A call was refused.
+    #[error("refused {}", .0.number())]
+    Source(#[from] SourceRefusal),
+    #[error("refused {}", .0.number())]
+    Window(#[from] WindowRefusal),
+    #[error("refused {}", .0.number())]
+    Table(#[from] TableRefusal),
+    #[error("refused {}", .0.number())]
+    Plan(#[from] PlanRefusal),
+    #[error("refused {}", .0.number())]
+    Read(#[from] ReadRefusal),
+    // An info was refused, at a slot.
+    #[error("refused {} {}", .0.number(), .0.slot_number())]
+    Info(#[from] InfoRefusal),
+    #[error("refused {} {OUTSIDE_CODES}", .0.number())]
+    Records(ListRefusal),
 }
 
 impl From<AllocError> for Stop {
@@ -31,47 +39,11 @@ impl From<AllocError> for Stop {
     }
 }
 
-impl From<SourceRefusal> for Stop {
-    fn from(refusal: SourceRefusal) -> Stop {
-        Stop::Refused(refusal.number())
-    }
-}
-
-impl From<WindowRefusal> for Stop {
-    fn from(refusal: WindowRefusal) -> Stop {
-        Stop::Refused(refusal.number())
-    }
-}
-
-impl From<ReadRefusal> for Stop {
-    fn from(refusal: ReadRefusal) -> Stop {
-        Stop::Refused(refusal.number())
-    }
-}
-
-impl From<PlanRefusal> for Stop {
-    fn from(refusal: PlanRefusal) -> Stop {
-        Stop::Refused(refusal.number())
-    }
-}
-
-impl From<TableRefusal> for Stop {
-    fn from(refusal: TableRefusal) -> Stop {
-        Stop::Refused(refusal.number())
-    }
-}
-
-impl From<InfoRefusal> for Stop {
-    fn from(refusal: InfoRefusal) -> Stop {
-        Stop::RefusedAt(refusal.number(), refusal.slot)
-    }
-}
-
 impl From<ListRefusal> for Stop {
     fn from(refusal: ListRefusal) -> Stop {
         match refusal {
-            ListRefusal::BadInfo(e) => Stop::RefusedAt(e.number(), e.slot),
-            ListRefusal::TooFewRecords => Stop::RefusedAt(refusal.number(), OUTSIDE_CODES),
+            ListRefusal::BadInfo(e) => Stop::Info(e),
+            ListRefusal::TooFewRecords => Stop::Records(refusal),
         }
     }
 }

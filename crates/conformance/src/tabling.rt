@@ -1,4 +1,5 @@
 // The request `table BYTES BASE SIZE RECORDS`.
+use crate::list::push_list;
 use crate::short::count;
 use crate::stop::Stop;
 use layout::address::{Address, Rva};
@@ -9,7 +10,7 @@ use protocol::write::push_hex;
 use std::alloc::{AllocError, Global};
 use tables::entry::Entry;
 use tables::load::load_table;
-use tables::module::MAX_ENTRIES;
+use tables::module::{Extent, MAX_ENTRIES};
 
 // `begin.end.info`
 pub fn push_entry(line: &mut Vec<u8>, entry: Entry) -> Result<(), AllocError> {
@@ -20,23 +21,11 @@ pub fn push_entry(line: &mut Vec<u8>, entry: Entry) -> Result<(), AllocError> {
     push_hex(line, u128::from(entry.info.0))
 }
 
-fn push_entries(line: &mut Vec<u8>, entries: &[Entry]) -> Result<(), AllocError> {
-    if entries.is_empty() {
-        return line.extend_from_slice(b"-");
-    }
-    for (i, entry) in entries.iter().enumerate() {
-        if i > 0 {
-            line.extend_from_slice(b",")?;
-        }
-        push_entry(line, *entry)?;
-    }
-    Ok(())
-}
-
 pub fn table(heap: Global, mut fields: Parts, line: &mut Vec<u8>) -> Result<(), Stop> {
     let bytes = byte_string(heap, fields.part()?)?;
     let base = Address(number(fields.part()?)?);
     let size = number(fields.part()?)?;
+    let extent = Extent { base, size };
     // More records than a table can have entries make no difference.
     let room = count(fields.part()?, MAX_ENTRIES)?;
     fields.end()?;
@@ -46,8 +35,9 @@ pub fn table(heap: Global, mut fields: Parts, line: &mut Vec<u8>) -> Result<(), 
         info: Rva(0),
     };
     let mut records = vec![in heap; none; room]?;
-    let n = load_table(bytes.as_slice(), base, size, records.as_mut_slice())?;
+    let n = load_table(bytes.as_slice(), extent, records.as_mut_slice())?;
     line.extend_from_slice(b"ok ")?;
-    push_entries(line, records.as_slice().get(0..n).unwrap_or(&[]))?;
+    let entries = records.as_slice().get(..n).unwrap_or(&[]);
+    push_list(line, entries, |line, entry| push_entry(line, *entry))?;
     Ok(())
 }

@@ -1,14 +1,17 @@
 // The request `info AREA START RVA RECORDS`.
+use crate::list::push_list;
 use crate::short::{count, rva};
 use crate::stop::Stop;
 use crate::tabling::push_entry;
 use infos::code::{Code, Operation};
-use infos::info::{Info, Tail, read_info};
+use infos::info::{Info, Tail};
 use infos::listing::list_codes;
+use infos::reading::read_info;
 use protocol::bytes::byte_string;
 use protocol::parts::Parts;
 use protocol::write::{push_bytes, push_decimal, push_hex};
 use std::alloc::{AllocError, Global};
+use tables::area::InfoArea;
 
 // An info has fewer slots, and so fewer codes.
 const MAX_CODES: usize = 256;
@@ -46,17 +49,9 @@ fn push_header(line: &mut Vec<u8>, info: &Info) -> Result<(), AllocError> {
 // The size or the byte offset, 0 where there is none.
 fn value_of(operation: Operation) -> u32 {
     match operation {
-        Operation::Push(_) => 0,
+        Operation::Push(_) | Operation::SetFrame => 0,
         Operation::Allocate(size) => size,
-        Operation::SetFrame => 0,
-        Operation::Save {
-            register: _,
-            offset,
-        } => offset,
-        Operation::SaveXmm {
-            register: _,
-            offset,
-        } => offset,
+        Operation::Save { offset, .. } | Operation::SaveXmm { offset, .. } => offset,
     }
 }
 
@@ -75,22 +70,13 @@ fn push_code(line: &mut Vec<u8>, slots: &[u8], code: Code) -> Result<(), AllocEr
     push_hex(line, u128::from(value_of(code.operation)))
 }
 
-fn push_codes(line: &mut Vec<u8>, slots: &[u8], codes: &[Code]) -> Result<(), AllocError> {
-    if codes.is_empty() {
-        return line.extend_from_slice(b"-");
-    }
-    for (i, code) in codes.iter().enumerate() {
-        if i > 0 {
-            line.extend_from_slice(b",")?;
-        }
-        push_code(line, slots, *code)?;
-    }
-    Ok(())
-}
-
 pub fn info(heap: Global, mut fields: Parts, line: &mut Vec<u8>) -> Result<(), Stop> {
-    let area = byte_string(heap, fields.part()?)?;
+    let bytes = byte_string(heap, fields.part()?)?;
     let start = rva(fields.part()?)?;
+    let area = InfoArea {
+        bytes: bytes.as_slice(),
+        start,
+    };
     let at = rva(fields.part()?)?;
     let room = count(fields.part()?, MAX_CODES)?;
     fields.end()?;
@@ -100,17 +86,14 @@ pub fn info(heap: Global, mut fields: Parts, line: &mut Vec<u8>) -> Result<(), S
         operation: Operation::SetFrame,
     };
     let mut records = vec![in heap; none; room]?;
-    let n = list_codes(area.as_slice(), start, at, records.as_mut_slice())?;
-    let view = read_info(area.as_slice(), start, at)?;
+    let n = list_codes(area, at, records.as_mut_slice())?;
+    let view = read_info(area, at)?;
     line.extend_from_slice(b"ok ")?;
     push_header(line, &view)?;
     line.extend_from_slice(b" ")?;
     push_tail(line, view.tail)?;
     line.extend_from_slice(b" ")?;
-    push_codes(
-        line,
-        view.slots,
-        records.as_slice().get(0..n).unwrap_or(&[]),
-    )?;
+    let codes = records.as_slice().get(..n).unwrap_or(&[]);
+    push_list(line, codes, |line, code| push_code(line, view.slots, *code))?;
     Ok(())
 }

@@ -2,6 +2,7 @@
 use crate::memories::show_memories;
 use crate::tables_of::show_table;
 use layout::address::Rva;
+use tables::area::InfoArea;
 
 // Three functions: one with a frame register, one with a handler, and a part of it that goes on with it.
 const TABLE: [u8; 36] = [
@@ -20,5 +21,9 @@ const INFOS: [u8; 60] = [
 
 pub fn show_all(rt: &HostRuntime) -> anyhow::Result<()> {
     show_memories(rt)?;
-    show_table(rt, &TABLE, &INFOS, Rva(0x2000), 0x203c)
+    let area = InfoArea {
+        bytes: &INFOS,
+        start: Rva(0x2000),
+    };
+    show_table(rt, &TABLE, area, 0x203c)
 }

@@ -4,6 +4,7 @@
 mod demo;
 mod memories;
 mod names;
+mod refusal;
 mod report;
 mod tables_of;
 

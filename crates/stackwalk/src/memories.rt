@@ -1,10 +1,10 @@
 // A sparse dump with a hole, a limit over it, and what reading through both answers.
+use crate::refusal::show_refusal;
 use layout::address::Address;
 use layout::refusal::Numbered;
 use limit::layer::Limit;
-use limit::window::WindowRefusal;
-use memory::item::{ItemFault, read_word};
-use memory::range::{DumpRange, SourceRefusal};
+use memory::item::{ItemFault, read_item};
+use memory::range::DumpRange;
 use memory::reading::Memory;
 use memory::sparse::SparseDump;
 use std::io;
@@ -31,10 +31,10 @@ const RANGES: [DumpRange; 2] = [
 pub fn show_memories(rt: &HostRuntime) -> io::Result<()> {
     println!(rt; "A sparse dump of a stack, with a hole:")?;
     show_ranges(rt)?;
-    let mut dump = SparseDump::empty();
-    if let Err(e) = dump.load(&RANGES, &STACK) {
-        return show_source_refusal(rt, e);
-    }
+    let mut dump = match SparseDump::new(&RANGES, &STACK) {
+        Ok(dump) => dump,
+        Err(e) => return show_refusal(rt, "dump", &e),
+    };
     println!(rt; "Words read from it:")?;
     for i in 0u64..5 {
         show_word(rt, &mut dump, Address(0x10_0ef8 + 8 * i))?;
@@ -42,7 +42,7 @@ pub fn show_memories(rt: &HostRuntime) -> io::Result<()> {
     println!(rt; "A limit over it that admits 0x100f00 to 0x100f17:")?;
     let mut limit = Limit::new(dump);
     if let Err(e) = limit.admit(Address(0x10_0f00), Address(0x10_0f17)) {
-        return show_window_refusal(rt, e);
+        return show_refusal(rt, "window", &e);
     }
     for i in 0u64..5 {
         show_word(rt, &mut limit, Address(0x10_0ef8 + 8 * i))?;
@@ -64,7 +64,7 @@ fn show_ranges(rt: &impl Print) -> io::Result<()> {
 // One word, or the byte that was lacking.
 fn show_word<M: Memory>(rt: &impl Print, m: &mut M, at: Address) -> io::Result<()> {
     let start = at.0;
-    match read_word(m, at) {
+    match read_item::<8, u64, M>(m, at) {
         Ok(word) => println!(rt; "  {start:#x}: {word:#018x}"),
         Err(ItemFault::Unread(lacking)) => {
             let hole = lacking.at.0;
@@ -92,14 +92,4 @@ fn show_admission<M>(
             println!(rt; "Admitting {low:#x} to {high:#x}: refused with {number}, nothing changed")
         }
     }
-}
-
-fn show_source_refusal(rt: &impl Print, e: SourceRefusal) -> io::Result<()> {
-    let number = e.number();
-    println!(rt; "The dump is refused with {number}.")
-}
-
-fn show_window_refusal(rt: &impl Print, e: WindowRefusal) -> io::Result<()> {
-    let number = e.number();
-    println!(rt; "The window is refused with {number}.")
 }

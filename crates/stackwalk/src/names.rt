@@ -7,8 +7,5 @@ const INTEGER: [&str; 16] = [
 
 // The name of an integer register.
 pub fn integer_name(register: u8) -> &'static str {
-    match INTEGER.get(usize::from(register)) {
-        Some(name) => name,
-        None => "?",
-    }
+    INTEGER.get(usize::from(register)).copied().unwrap_or("?")
 }

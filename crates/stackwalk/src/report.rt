@@ -1,12 +1,14 @@
 // A function table for people: entries, prologues, codes in words, tails.
 use crate::names::integer_name;
 use infos::code::{Code, Operation};
-use infos::info::{Info, Tail, read_info};
+use infos::info::{Info, Tail};
 use infos::listing::list_codes;
-use infos::refusal::{InfoRefusal, OUTSIDE_CODES};
+use infos::reading::read_info;
+use infos::refusal::InfoRefusal;
 use layout::address::Rva;
 use layout::refusal::Numbered;
 use std::io;
+use tables::area::InfoArea;
 use tables::entry::Entry;
 
 // The most codes that an info can hold.
@@ -60,21 +62,20 @@ fn show_tail(rt: &impl Print, tail: Tail) -> io::Result<()> {
 
 fn show_refusal(rt: &impl Print, refusal: InfoRefusal) -> io::Result<()> {
     let number = refusal.number();
-    let slot = refusal.slot;
-    if slot == OUTSIDE_CODES {
-        return println!(rt; "    info refused with {number}");
+    match refusal.slot {
+        None => println!(rt; "    info refused with {number}"),
+        Some(slot) => println!(rt; "    info refused with {number} at slot {slot}"),
     }
-    println!(rt; "    info refused with {number} at slot {slot}")
 }
 
-fn show_codes(rt: &impl Print, area: &[u8], start: Rva, at: Rva) -> io::Result<()> {
+fn show_codes(rt: &impl Print, area: InfoArea, at: Rva) -> io::Result<()> {
     let none = Code {
         slot: 0,
         offset: 0,
         operation: Operation::SetFrame,
     };
     let mut codes = [none; CODES];
-    let Ok(n) = list_codes(area, start, at, &mut codes) else {
+    let Ok(n) = list_codes(area, at, &mut codes) else {
         return Ok(());
     };
     for code in codes.iter().take(n) {
@@ -84,15 +85,15 @@ fn show_codes(rt: &impl Print, area: &[u8], start: Rva, at: Rva) -> io::Result<(
 }
 
 // One entry with its info.
-fn show_entry(rt: &impl Print, entry: Entry, area: &[u8], start: Rva) -> io::Result<()> {
+fn show_entry(rt: &impl Print, entry: Entry, area: InfoArea) -> io::Result<()> {
     let begin = entry.begin.0;
     let end = entry.end.0;
     let at = entry.info.0;
     println!(rt; "  {begin:#x} to {end:#x}, info at {at:#x}")?;
-    match read_info(area, start, entry.info) {
+    match read_info(area, entry.info) {
         Ok(info) => {
             show_header(rt, &info)?;
-            show_codes(rt, area, start, entry.info)?;
+            show_codes(rt, area, entry.info)?;
             show_tail(rt, info.tail)
         }
         Err(e) => show_refusal(rt, e),
@@ -100,11 +101,11 @@ fn show_entry(rt: &impl Print, entry: Entry, area: &[u8], start: Rva) -> io::Res
 }
 
 // All entries, each with its info.
-pub fn show_entries(rt: &impl Print, entries: &[Entry], area: &[u8], start: Rva) -> io::Result<()> {
+pub fn show_entries(rt: &impl Print, entries: &[Entry], area: InfoArea) -> io::Result<()> {
     let count = entries.len();
     println!(rt; "Function table of {count} entries:")?;
     for entry in entries {
-        show_entry(rt, *entry, area, start)?;
+        show_entry(rt, *entry, area)?;
     }
     Ok(())
 }

@@ -1,12 +1,13 @@
 // Loading a table from bytes or files, and reporting it.
+use crate::refusal::show_refusal;
 use crate::report::show_entries;
 use anyhow::anyhow;
 use layout::address::{Address, Rva};
-use layout::refusal::Numbered;
 use std::fs;
+use tables::area::InfoArea;
 use tables::entry::Entry;
 use tables::load::load_table;
-use tables::refusal::TableRefusal;
+use tables::module::Extent;
 
 // A number in decimal, or in hexadecimal after `0x`.
 fn number(rt: &HostRuntime, text: &str) -> anyhow::Result<u64> {
@@ -27,29 +28,21 @@ fn bytes_of(rt: &HostRuntime, path: &str) -> anyhow::Result<Vec<u8>> {
     }
 }
 
-fn show_refusal(rt: &HostRuntime, refusal: TableRefusal) -> anyhow::Result<()> {
-    let number = refusal.number();
-    println!(rt; "The table is refused with {number}.")?;
-    Ok(())
-}
-
 // Loads the table, and reports its entries with their infos.
-pub fn show_table(
-    rt: &HostRuntime,
-    table: &[u8],
-    area: &[u8],
-    start: Rva,
-    size: u64,
-) -> anyhow::Result<()> {
+pub fn show_table(rt: &HostRuntime, table: &[u8], area: InfoArea, size: u64) -> anyhow::Result<()> {
     let none = Entry {
         begin: Rva(0),
         end: Rva(0),
         info: Rva(0),
     };
     let mut records = vec![in rt.alloc(); none; table.len() / 12]?;
-    match load_table(table, Address(0), size, records.as_mut_slice()) {
-        Ok(_) => Ok(show_entries(rt, records.as_slice(), area, start)?),
-        Err(e) => show_refusal(rt, e),
+    let extent = Extent {
+        base: Address(0),
+        size,
+    };
+    match load_table(table, extent, records.as_mut_slice()) {
+        Ok(_) => Ok(show_entries(rt, records.as_slice(), area)?),
+        Err(e) => Ok(show_refusal(rt, "table", &e)?),
     }
 }
 
@@ -67,5 +60,9 @@ pub fn show_files(
     let size = number(rt, size)?;
     let table = bytes_of(rt, table)?;
     let area = bytes_of(rt, infos)?;
-    show_table(rt, table.as_slice(), area.as_slice(), Rva(start), size)
+    let area = InfoArea {
+        bytes: area.as_slice(),
+        start: Rva(start),
+    };
+    show_table(rt, table.as_slice(), area, size)
 }
