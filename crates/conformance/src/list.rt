@@ -23,7 +23,8 @@ pub fn list<T: Notation>(heap: Global, text: &[u8]) -> Result<Vec<T>, Bad> {
     Ok(all)
 }
 
-// The same of what `push` writes for each item.
+// The same of what `push` writes for each item. Items are written by functions over protocol's, whose text is proved to read
+// back; an impl of Display would say nothing of it.
 pub fn push_list<T, F: FnMut(&mut Vec<u8>, &T) -> Result<(), AllocError>>(
     line: &mut Vec<u8>,
     items: &[T],

@@ -48,6 +48,7 @@ pub fn serve(rt: &HostRuntime) -> io::Result<()> {
     let mut output = BufWriter::new(heap, rt.stdout())?;
     let mut line = Vec::new(heap);
     let mut out = Vec::new(heap);
+    // As long as there are lines: a loop has to be bounded to be proved to end.
     for _ in 0..u64::MAX {
         line.clear();
         if input.read_until(b'\n', &mut line)? == 0 {

@@ -33,12 +33,14 @@ pub enum Stop {
     Records(ListRefusal),
 }
 
+// By hand: it is told as a reason of its own, with no value of the error in it.
 impl From<AllocError> for Stop {
     fn from(_e: AllocError) -> Stop {
         Stop::Bad(Bad::NoMemory)
     }
 }
 
+// By hand: its two cases are told in two ways.
 impl From<ListRefusal> for Stop {
     fn from(refusal: ListRefusal) -> Stop {
         match refusal {

@@ -76,6 +76,7 @@ pub enum ListRefusal {
 impl Numbered for ListRefusal {
     ghost number = { list_number };
 
+    // By a match: where a case holds a value, no case can have a number of its own.
     fn number(&self) -> u16 {
         match self {
             ListRefusal::BadInfo(e) => e.number(),

@@ -22,6 +22,7 @@ pub enum ItemFault {
 impl Numbered for ItemFault {
     ghost number = { item_number };
 
+    // By a match: where a case holds a value, no case can have a number of its own.
     fn number(&self) -> u16 {
         match self {
             ItemFault::Unread(lacking) => lacking.number(),
@@ -30,6 +31,7 @@ impl Numbered for ItemFault {
     }
 }
 
+// By hand, since clauses name the error that `?` makes, and a derived `From` has no contract.
 impl From<Lacking> for ItemFault {
     ghost from_gives = { λ e r. r ≡ Unread e };
 

@@ -24,6 +24,7 @@ pub enum ReadRefusal {
 impl Numbered for ReadRefusal {
     ghost number = { read_number };
 
+    // By a match: where a case holds a value, no case can have a number of its own.
     fn number(&self) -> u16 {
         match self {
             ReadRefusal::BadModule(e) => e.number(),

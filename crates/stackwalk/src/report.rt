@@ -1,4 +1,5 @@
-// A function table for people: entries, prologues, codes in words, tails.
+// A function table for people: entries, prologues, codes in words, tails. Written line by line: the types are other crates',
+// and the words this program's, so there is no place for an impl of Display.
 use crate::names::integer_name;
 use infos::code::{Code, Operation};
 use infos::info::{Info, Tail};
