@@ -75,25 +75,30 @@ fn push_module(heap: Global, module: &Module, line: &mut Vec<u8>) -> Result<(), 
     Ok(())
 }
 
+// A module of entries whose infos lie in an area.
+fn module_of<'a>(extent: Extent, entries: &'a [Entry], area: InfoArea<'a>) -> Module<'a> {
+    Module {
+        extent,
+        entries,
+        area,
+    }
+}
+
 pub fn read_back_request(heap: Global, mut fields: Parts, line: &mut Vec<u8>) -> Result<(), Stop> {
     let table = byte_string(heap, fields.part()?)?;
     let start = rva(fields.part()?)?;
-    let area = byte_string(heap, fields.part()?)?;
+    let bytes = byte_string(heap, fields.part()?)?;
     fields.end()?;
     // The module ends with its infos.
-    let size = u64::from(start.0).saturating_add(area.len() as u64);
+    let size = u64::from(start.0).saturating_add(bytes.len() as u64);
     let extent = Extent {
         base: Address(0),
         size,
     };
     let entries = entries_of(heap, table.as_slice(), extent)?;
-    let module = Module {
-        extent,
-        entries: entries.as_slice(),
-        area: InfoArea {
-            bytes: area.as_slice(),
-            start,
-        },
+    let area = InfoArea {
+        bytes: bytes.as_slice(),
+        start,
     };
-    push_module(heap, &module, line)
+    push_module(heap, &module_of(extent, entries.as_slice(), area), line)
 }
