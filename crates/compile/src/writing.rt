@@ -61,7 +61,8 @@ fn write_functions(
     }
 }
 
-// Writes the code, infos and table of an accepted plan over the buffers' first bytes, which are enough.
+// Writes the code, infos and table of an accepted plan over the buffers' first bytes, which are enough. Three parameters, as the
+// caller of `compile` lends them one by one.
 pub(crate) fn write_module(
     plan: &Plan,
     starts: &[u32],

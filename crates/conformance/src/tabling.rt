@@ -29,6 +29,7 @@ pub fn table(heap: Global, mut fields: Parts, line: &mut Vec<u8>) -> Result<(), 
         end: Rva(0),
         info: Rva(0),
     };
+    // The library writes into records that it is lent, so the count stands beside them.
     let mut records = vec![in heap; none; room]?;
     let n = load_table(bytes.as_slice(), extent, records.as_mut_slice())?;
     line.extend_from_slice(b"ok ")?;
