@@ -15,7 +15,7 @@ use x64::encode::{emit, encoded_length};
 use x64::instruction::Instruction;
 
 // A save is loaded from its slot, by the frame register where there is one.
-pub(crate) fn load(frame: Option<SetFrameStep>, step: Step) -> Option<Instruction>
+pub fn load(frame: Option<SetFrameStep>, step: Step) -> Option<Instruction>
     ensures { listed result ≡ loading frame step }
 {
     match (step, frame) {
@@ -32,7 +32,7 @@ pub(crate) fn load(frame: Option<SetFrameStep>, step: Step) -> Option<Instructio
     }
 }
 
-pub(crate) fn pop(step: Step) -> Option<Instruction>
+pub fn pop(step: Step) -> Option<Instruction>
     ensures { listed result ≡ popping step }
 {
     match step {
@@ -41,8 +41,8 @@ pub(crate) fn pop(step: Step) -> Option<Instruction>
     }
 }
 
-// How many bytes the instructions have that `give` gives for the steps. (Up to 10 steps, as in all that counts bytes: a caller's
-// plan may have more until it is checked, so no type of steps says it.)
+// How many bytes the instructions have that `give` gives for the steps. The bound of ten steps stands in a `requires` wherever
+// bytes are counted: a caller's plan may have more until it is checked, so no type of steps says it.
 pub fn part_size<F: Fn(Step) -> Option<Instruction>>(steps: &[StepRecord], give: F) -> usize
     requires few { length steps.now ≤ 10 }
     requires callable { F.IsAlwaysCallable give }

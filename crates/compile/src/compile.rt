@@ -1,38 +1,25 @@
 // The compiler.
-ghost use Rattle.std.specs.Prelude.{◌≡◌, ℕ, length, is_ok, if◌then◌else◌, nat_le};
+ghost use Rattle.std.specs.Prelude.{◌≡◌, ℕ, length, is_ok, if◌then◌else◌};
 ghost use Rattle.layout.specs.Words.{overwritten};
 ghost use Rattle.plan.specs.Functions.{text_of, functions_of};
 ghost use Rattle.plan.specs.Layouts.{code as code_of, infos as infos_of, table as table_of};
 ghost use Rattle.plan.specs.Refusals.{told};
-ghost use Rattle.plan.specs.Verdicts.{owed};
 ghost use Rattle.compile.specs.Compilings.{room_verdict, compiling};
 
 use crate::layout_of::{info_start, measure};
 use crate::lengths::Lengths;
 use crate::writing::write_module;
+use plan::check::owe;
 use plan::refusal::{PlanReason, PlanRefusal};
 use plan::text::Plan;
-
-// 18 for a buffer that is too short.
-fn check_one(index: usize, need: usize, room: usize) -> Result<(), PlanRefusal>
-    ensures { told result ≡ owed (nat_le need room) 18 index }
-{
-    if need > room {
-        return Err(PlanRefusal {
-            reason: PlanReason::Buffer,
-            index,
-        });
-    }
-    Ok(())
-}
 
 // 18 for the first buffer that is too short.
 fn check_room(need: Lengths, room: Lengths) -> Result<(), PlanRefusal>
     ensures { told result ≡ room_verdict need room.code room.infos room.table }
 {
-    check_one(0, need.code, room.code)?;
-    check_one(1, need.infos, room.infos)?;
-    check_one(2, need.table, room.table)
+    owe(need.code <= room.code, PlanReason::Buffer, 0)?;
+    owe(need.infos <= room.infos, PlanReason::Buffer, 1)?;
+    owe(need.table <= room.table, PlanReason::Buffer, 2)
 }
 
 // Compiles a plan into the first bytes of three buffers, and answers how many bytes each got; the rest of the buffers stays.

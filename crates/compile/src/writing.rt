@@ -34,7 +34,7 @@ fn write_entry(begin: u32, end: u32, info: u32, out: &mut Cursor)
     out.put(&[b0, b1, b2, b3, e0, e1, e2, e3, i0, i1, i2, i3]);
 }
 
-// Writes the functions of an accepted plan one by one, from the starts of three slices on, which are long enough.
+// Writes the functions of an accepted plan one by one, each with its info and its entry, over slices that are long enough.
 fn write_functions(
     plan: &Plan,
     starts: &[u32],
@@ -61,7 +61,8 @@ fn write_functions(
     }
 }
 
-// Writes the code, infos and table of an accepted plan over the buffers' first bytes, which are enough.
+// Writes the code, infos and table of an accepted plan over the buffers' first bytes, which are enough. Three parameters, as the
+// caller of `compile` lends them one by one.
 pub(crate) fn write_module(
     plan: &Plan,
     starts: &[u32],

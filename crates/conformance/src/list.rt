@@ -6,6 +6,7 @@ use protocol::bad::Bad;
 use protocol::number::number;
 use protocol::parts::Parts;
 use protocol::record::record;
+use protocol::write::push_hex;
 use std::alloc::{AllocError, Global};
 
 pub trait Notation: Drop {
@@ -23,8 +24,8 @@ pub fn list<T: Notation>(heap: Global, text: &[u8]) -> Result<Vec<T>, Bad> {
     Ok(all)
 }
 
-// The same of what `push` writes for each item. Items are written by functions over protocol's, whose text is proved to read
-// back; an impl of Display would say nothing of it.
+// Writes a list: what `push` writes for each item, joined by `,`, or `-` for none. Items are written by functions over
+// protocol's, whose text is proved to read back; an impl of Display would say nothing of it.
 pub fn push_list<T, F: FnMut(&mut Vec<u8>, &T) -> Result<(), AllocError>>(
     line: &mut Vec<u8>,
     items: &[T],
@@ -40,6 +41,17 @@ pub fn push_list<T, F: FnMut(&mut Vec<u8>, &T) -> Result<(), AllocError>>(
             line.extend_from_slice(b",")?;
         }
         push(line, item)?;
+    }
+    Ok(())
+}
+
+// Numbers in hexadecimal, joined by `.`.
+pub fn push_joined(line: &mut Vec<u8>, numbers: &[u32]) -> Result<(), AllocError> {
+    for (i, n) in numbers.iter().enumerate() {
+        if i > 0 {
+            line.extend_from_slice(b".")?;
+        }
+        push_hex(line, u128::from(*n))?;
     }
     Ok(())
 }

@@ -38,10 +38,10 @@ trait Depth {
         requires { length layers.now ≤ LAYERS };
 }
 
-// None.
+// No layer may come.
 struct Top;
 
-// One more than `D` takes.
+// One layer more than `D` takes may come.
 struct Over<D>(PhantomData<D>);
 
 impl Depth for Top {

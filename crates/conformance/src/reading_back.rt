@@ -1,12 +1,12 @@
 // The request `readback TABLE START AREA`.
-use crate::list::push_list;
+use crate::list::{push_joined, push_list};
 use crate::short::rva;
 use crate::stop::Stop;
 use layout::address::{Address, Rva};
 use plan::text::{Counts, StepRecord};
 use protocol::bytes::byte_string;
 use protocol::parts::Parts;
-use protocol::write::{push_decimal, push_hex};
+use protocol::write::push_decimal;
 use readback::read::read_back;
 use std::alloc::{AllocError, Global};
 use tables::area::InfoArea;
@@ -26,11 +26,9 @@ fn push_counts(line: &mut Vec<u8>, counts: Counts) -> Result<(), AllocError> {
 
 // `kind.register.number`
 fn push_step(line: &mut Vec<u8>, step: StepRecord) -> Result<(), AllocError> {
-    push_hex(line, u128::from(step.kind))?;
-    line.extend_from_slice(b".")?;
-    push_hex(line, u128::from(step.register))?;
-    line.extend_from_slice(b".")?;
-    push_hex(line, u128::from(step.number))
+    let kind = u32::from(step.kind);
+    let register = u32::from(step.register);
+    push_joined(line, &[kind, register, step.number])
 }
 
 // The entries of a table in a module that lies here.

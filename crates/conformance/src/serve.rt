@@ -11,7 +11,7 @@ use std::alloc::Global;
 use std::io;
 use std::io::{BufRead, BufReader, BufWriter, Write};
 
-// The line without its line feed, and without a carriage return before that.
+// The line without its line feed, and without a carriage return before that; the last line may have none.
 fn trimmed(line: &[u8]) -> &[u8] {
     match line.strip_suffix(b"\n") {
         Some(rest) => rest.strip_suffix(b"\r").unwrap_or(rest),

@@ -15,7 +15,7 @@ pub enum Stop {
     // The line cannot be read.
     #[error("bad {0}")]
     Bad(#[from] Bad),
-    // A call was refused.
+    // A call was refused: one case for each kind of refusal.
     #[error("refused {}", .0.number())]
     Source(#[from] SourceRefusal),
     #[error("refused {}", .0.number())]
@@ -33,7 +33,7 @@ pub enum Stop {
     Records(ListRefusal),
 }
 
-// By hand: it is told as a reason of its own, with no value of the error in it.
+// By hand: want of memory is told like a line that cannot be read.
 impl From<AllocError> for Stop {
     fn from(_e: AllocError) -> Stop {
         Stop::Bad(Bad::NoMemory)

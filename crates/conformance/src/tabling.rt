@@ -1,12 +1,11 @@
 // The request `table BYTES BASE SIZE RECORDS`.
-use crate::list::push_list;
+use crate::list::{push_joined, push_list};
 use crate::short::count;
 use crate::stop::Stop;
 use layout::address::{Address, Rva};
 use protocol::bytes::byte_string;
 use protocol::number::number;
 use protocol::parts::Parts;
-use protocol::write::push_hex;
 use std::alloc::{AllocError, Global};
 use tables::entry::Entry;
 use tables::load::load_table;
@@ -14,11 +13,7 @@ use tables::module::{Extent, MAX_ENTRIES};
 
 // `begin.end.info`
 pub fn push_entry(line: &mut Vec<u8>, entry: Entry) -> Result<(), AllocError> {
-    push_hex(line, u128::from(entry.begin.0))?;
-    line.extend_from_slice(b".")?;
-    push_hex(line, u128::from(entry.end.0))?;
-    line.extend_from_slice(b".")?;
-    push_hex(line, u128::from(entry.info.0))
+    push_joined(line, &[entry.begin.0, entry.end.0, entry.info.0])
 }
 
 pub fn table(heap: Global, mut fields: Parts, line: &mut Vec<u8>) -> Result<(), Stop> {
@@ -34,6 +29,7 @@ pub fn table(heap: Global, mut fields: Parts, line: &mut Vec<u8>) -> Result<(), 
         end: Rva(0),
         info: Rva(0),
     };
+    // The library writes into records that it is lent, so the count stands beside them.
     let mut records = vec![in heap; none; room]?;
     let n = load_table(bytes.as_slice(), extent, records.as_mut_slice())?;
     line.extend_from_slice(b"ok ")?;

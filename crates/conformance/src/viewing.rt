@@ -1,5 +1,5 @@
 // The request `info AREA START RVA RECORDS`.
-use crate::list::push_list;
+use crate::list::{push_joined, push_list};
 use crate::short::{count, rva};
 use crate::stop::Stop;
 use crate::tabling::push_entry;
@@ -59,15 +59,12 @@ fn value_of(operation: Operation) -> u32 {
 fn push_code(line: &mut Vec<u8>, slots: &[u8], code: Code) -> Result<(), AllocError> {
     let at = code.slot.saturating_mul(2).saturating_add(1);
     let second = slots.get(at).copied().unwrap_or(0);
+    let op = u32::from(second % 16);
+    let info = u32::from(second / 16);
     push_decimal(line, code.slot as u128)?;
     line.extend_from_slice(b".")?;
-    push_hex(line, u128::from(code.offset))?;
-    line.extend_from_slice(b".")?;
-    push_hex(line, u128::from(second % 16))?;
-    line.extend_from_slice(b".")?;
-    push_hex(line, u128::from(second / 16))?;
-    line.extend_from_slice(b".")?;
-    push_hex(line, u128::from(value_of(code.operation)))
+    let offset = u32::from(code.offset);
+    push_joined(line, &[offset, op, info, value_of(code.operation)])
 }
 
 pub fn info(heap: Global, mut fields: Parts, line: &mut Vec<u8>) -> Result<(), Stop> {

@@ -36,6 +36,13 @@ pub fn put(registers: &mut Registers, register: u8, value: u64)
     }
 }
 
+// Whether the eight bytes at an address lie in an area of `size` bytes, of which the first has the address `low`.
+pub fn holds(low: u64, size: usize, at: u64) -> bool
+    ensures { result ≡ holds_word low size at }
+{
+    low <= at && size >= 8 && at - low <= size as u64 - 8
+}
+
 // A stack area that is only read: bytes of which the first has the address `low`.
 #[derive(Clone, Copy)]
 pub struct Area<'a> {
@@ -55,8 +62,7 @@ impl<'a> Area<'a> {
     pub fn holds(self, at: u64) -> bool
         ensures { result ≡ holds_word self.entry.low (length self.entry.bytes.now) at }
     {
-        let size = self.bytes.len() as u64;
-        self.low <= at && size >= 8 && at - self.low <= size - 8
+        holds(self.low, self.bytes.len(), at)
     }
 
     fn may_access(self, access: Option<Access>) -> bool

@@ -104,7 +104,7 @@ pub(crate) fn decode_first(slot: usize, bytes: &[u8]) -> Result<(Code, usize), I
     Ok((code, used))
 }
 
-// The code at a slot, and how many slots it takes, a pair as the project's rules ask: 43 where it is none, 44 where it passes the end of the slots.
+// As a pair: the code at a slot, and how many slots it takes. 43 where it is none, 44 where it passes the slots' end.
 pub fn decode(slots: &[u8], slot: usize) -> Result<(Code, usize), InfoReason>
     ensures value { result_map_both (λ p. p) reason_number result ≡ code_at slots.now slot }
     ensures within { IfOk result (λ p. (1 ≤ p.1) × (2 * (slot + p.1) ≤ length slots.now)) }

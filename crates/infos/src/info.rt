@@ -6,7 +6,8 @@ use crate::codes::Codes;
 use layout::address::Rva;
 use tables::entry::Entry;
 
-// What stands after the slots: three cases with what they borrow, so no Option.
+// What stands after the slots.
+// Three cases, each with what it borrows: an Option of two would say the same with one more name.
 #[derive(Clone, Copy)]
 pub enum Tail<'a> {
     None,
@@ -29,7 +30,6 @@ pub struct Info<'a> {
     pub place: usize,
     pub slots: &'a [u8],
     pub tail: Tail<'a>,
-    ghost few: { length slots.now ≤ 510 },
 }
 
 impl<'a> Info<'a> {
@@ -37,6 +37,7 @@ impl<'a> Info<'a> {
 
     // Its codes, one by one.
     pub fn codes(&self) -> Codes<'a>
+        requires { length self.now.slots.now ≤ 510 }
         ensures { gathered (codes_left result) ≡ codes_of self.now.prologue self.now.frame_register self.now.slots.now }
     {
         Codes::new(self.slots, self.prologue, self.frame_register)

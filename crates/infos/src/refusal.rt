@@ -28,7 +28,7 @@ pub struct InfoRefusal {
     pub slot: Option<u16>,
 }
 
-// How a slot is written where there is none.
+// How reports write that there is no slot: 65535 is the number that they are to have.
 pub const OUTSIDE_CODES: u16 = 65535;
 
 impl InfoRefusal {
@@ -85,7 +85,7 @@ impl Numbered for ListRefusal {
     }
 }
 
-// By hand: a derived one wants a message for each case, and these refusals are numbers.
+// By hand, since clauses name the error that `?` makes, and a derived `From` has no contract.
 impl From<InfoRefusal> for ListRefusal {
     ghost from_gives = { λ e r. r ≡ BadInfo e };
 

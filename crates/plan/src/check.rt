@@ -17,7 +17,7 @@ pub const MAX_STEPS: u16 = 10;
 pub const MAX_OPERATIONS: u16 = 255;
 
 // Refuses what is not good.
-fn owe(good: bool, reason: PlanReason, index: usize) -> Result<(), PlanRefusal>
+pub fn owe(good: bool, reason: PlanReason, index: usize) -> Result<(), PlanRefusal>
     ensures { told result ≡ owed good (reason_number reason) index }
 {
     good.then_some(()).ok_or(reason.at(index))

@@ -42,6 +42,7 @@ impl From<StepRecord> for Step {
     }
 }
 
+// By matches: the enum passes on to its kinds, and a trait object would have to be made for each step and handed out.
 impl Step {
     pub fn instruction(&self) -> Instruction
         ensures { result ≡ step_instruction self.now }

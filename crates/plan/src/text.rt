@@ -12,7 +12,8 @@ pub struct Counts {
 
 // A step of a prologue, by kind: 0 pushes the register, 1 allocates `number` bytes, 2 sets the register as frame register at
 // RSP + `number`, 3 saves the register at RSP + `number`. A field that a kind does not use is 0. The kind stays a number, since a
-// caller may give any, and the check refuses an unknown one.
+// caller may give any, and the check refuses an unknown one. The records stay the caller's, and what they mean is said of each,
+// since a list of steps would want room of its own.
 #[derive(Clone, Copy, PartialEq, Eq, Debug)]
 pub struct StepRecord {
     pub kind: u8,

@@ -41,7 +41,7 @@ fn number_up_to(text: &[u8], most: u128) -> Result<u128, Bad>
     }
 }
 
-// The unsigned types that a number is read as. The library's `TryFrom` takes no number of 128 bits.
+// The unsigned types that a number is read as. The clause of `number` names the largest one, which no `TryFrom` does.
 pub trait Unsigned {
     ghost MOST: { ℕ };
 
@@ -124,7 +124,7 @@ pub fn number<T: Unsigned>(text: &[u8]) -> Result<T, Bad>
     Ok(T::narrowed(n))
 }
 
-// A signed number of 32 bits, negative after `-`. The casts are proved, and `TryFrom` takes no number of 128 bits.
+// A signed number of 32 bits, negative after `-`. Its bounds are tested before, so the casts are proved to lose nothing.
 pub fn signed_number(text: &[u8]) -> Result<i32, Bad>
     ensures { result ≡ signed_of text.now }
 {

@@ -30,6 +30,7 @@ fn push_digits(line: &mut Vec<u8>, base: u128, n: u128) -> Result<(), AllocError
     Ok(())
 }
 
+// The digits of a number in either base: one function for both, which decimal shares with hexadecimal.
 fn push_figures(line: &mut Vec<u8>, base: u128, n: u128) -> Result<(), AllocError>
     requires low { 2 ≤ base }
     requires high { base ≤ 16 }

@@ -3,8 +3,8 @@ use Rattle.std.proofs.Common.{◌≡◌, ℕ, ◌+◌, ◌<◌, ◌≤◌, Bool,
 use Rattle.std.proofs.lemmas.List.{append-nil, append_assoc, length_push, length-append, take_more, set_at, length-take-le, at_drop_more, at_drop_all, take_at, drop_at, drop-drop}
 use Rattle.std.proofs.lemmas.Bool.{false≢true}
 use Rattle.infos.specs.Codes.{bind}
-use Rattle.infos.specs.Infos.{InfoOf, located, info_at}
-use Rattle.infos.specs.Refusals.{InfoFault, fault_at, at_slot}
+use Rattle.infos.specs.Infos.{InfoOf, info_at}
+use Rattle.infos.specs.Refusals.{InfoFault, fault_at}
 use Rattle.infos.specs.declared.code.Code.{Code}
 use Rattle.infos.proofs.Outcomes.{more, all_good, good_is, good_length, few_left}
 use Rattle.infos.specs.Codings.{codes_left}
@@ -172,18 +172,6 @@ pub write_more : {X : Type 0} (p old ss : List X) (at : ℕ) → length p ≡ at
 write_more p old ss at l =
     let rest : drop (at + length ss) (p ++ drop at old) ≡ drop (at + length ss) old = sym (drop-drop (length ss) at (p ++ drop at old)) ∙ ap (drop (length ss)) (drop_at p (drop at old) at l) ∙ drop-drop (length ss) at old in
     ap (λ f. f ++ (ss ++ drop (at + length ss) (p ++ drop at old))) (take_at p (drop at old) at l) ∙ ap (λ r. p ++ (ss ++ r)) rest ∙ sym (append_assoc p ss (drop (at + length ss) old))
-
--- the codes of an info that was read are good
-codes_were : (i j : InfoOf) (q : Result (List Code) InfoFault) → Ok i ≡ bind q (λ _. Ok j) → (j ≡ i) × (is_ok q ≡ true)
-codes_were i j (Ok cs) e = (cc, refl)
-codes_were i j (Err d) e = absurd (cc)
-
-good_at : (i : InfoOf) (r : Result InfoOf ℕ) → Ok i ≡ bind (at_slot 65535 r) (λ j. bind (codes_in j) (λ _. Ok j)) → is_ok (codes_in i) ≡ true
-good_at i (Ok j) e = let p = codes_were i j (codes_in j) e in ap (λ k. is_ok (codes_in k)) (sym p.0) ∙ p.1
-good_at i (Err d) e = absurd (cc)
-
-pub info_good : (area : List ℕ) (start rva : ℕ) (i : InfoOf) → Ok i ≡ info_at area start rva → is_ok (codes_in i) ≡ true
-info_good area start rva i e = good_at i (located area start rva) e
 
 -- a function with steps has no flags
 flagless : (b : Bool) (r : Steps) → is_ok (cond b r (Err (fault_at 65535 42))) ≡ true → cond b r (Err (fault_at 65535 42)) ≡ r

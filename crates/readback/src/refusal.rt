@@ -36,7 +36,7 @@ impl Numbered for ReadRefusal {
     }
 }
 
-// By hand: a derived one wants a message for each case, and these refusals are numbers.
+// By hand, since clauses name the error that `?` makes, and a derived `From` has no contract.
 impl From<TableRefusal> for ReadRefusal {
     ghost from_gives = { λ e r. r ≡ BadModule e };
 

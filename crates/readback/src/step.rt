@@ -14,6 +14,7 @@ fn step_of(info: &Info<'_>, code: Code) -> Result<StepRecord, ReadRefusal>
     requires { code.slot < 2 ^ 16 }
     ensures { told result ≡ step_of_code info.now.frame_register info.now.frame_offset code }
 {
+    // The kinds are numbers, as a caller's records have them.
     match code.operation {
         Operation::Push(register) => Ok(StepRecord {
             kind: 0,
@@ -41,7 +42,7 @@ fn step_of(info: &Info<'_>, code: Code) -> Result<StepRecord, ReadRefusal>
 
 // How many steps an info whose codes are good has: each code is one.
 pub(crate) fn count_steps(info: &Info<'_>) -> Result<usize, ReadRefusal>
-    requires { is_ok (codes_in (viewed info.now)) ≡ true }
+    requires { (length info.now.slots.now ≤ 510) × (is_ok (codes_in (viewed info.now)) ≡ true) }
     ensures value { told result ≡ counted_in (steps_in (viewed info.now)) }
     ensures bound { IfOk result (λ n. n ≤ 255) }
 {
@@ -55,7 +56,7 @@ pub(crate) fn count_steps(info: &Info<'_>) -> Result<usize, ReadRefusal>
 
 // Writes the steps of an info that has some, the last code's first, over the records that end at `end`.
 pub(crate) fn write_steps(info: &Info<'_>, records: &mut [StepRecord], end: usize)
-    requires readable { is_ok (steps_in (viewed info.now)) ≡ true }
+    requires readable { (length info.now.slots.now ≤ 510) × (is_ok (steps_in (viewed info.now)) ≡ true) }
     requires room { (length (found (steps_in (viewed info.now))) ≤ end) × (end ≤ length records.old) }
     ensures { records.new ≡ take (end - length (found (steps_in (viewed info.now)))) records.old ++ (found (steps_in (viewed info.now)) ++ drop end records.old) }
 {

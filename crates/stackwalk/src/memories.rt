@@ -36,17 +36,13 @@ pub fn show_memories(rt: &HostRuntime) -> io::Result<()> {
         Err(e) => return show_refusal(rt, "dump", &e),
     };
     println!(rt; "Words read from it:")?;
-    for i in 0u64..5 {
-        show_word(rt, &mut dump, Address(0x10_0ef8 + 8 * i))?;
-    }
+    show_words(rt, &mut dump)?;
     println!(rt; "A limit over it that admits 0x100f00 to 0x100f17:")?;
     let mut limit = Limit::new(dump);
     if let Err(e) = limit.admit(Address(0x10_0f00), Address(0x10_0f17)) {
         return show_refusal(rt, "window", &e);
     }
-    for i in 0u64..5 {
-        show_word(rt, &mut limit, Address(0x10_0ef8 + 8 * i))?;
-    }
+    show_words(rt, &mut limit)?;
     show_admission(rt, &mut limit, Address(0x10_0f10), Address(0x10_0f1f))?;
     show_admission(rt, &mut limit, Address(0x10_0f18), Address(0x10_0f1f))?;
     show_word(rt, &mut limit, Address(0x10_0f18))
@@ -61,7 +57,15 @@ fn show_ranges(rt: &impl Print) -> io::Result<()> {
     Ok(())
 }
 
-// One word, or the byte that was lacking.
+// The five words from the first range's start on.
+fn show_words<M: Memory>(rt: &impl Print, m: &mut M) -> io::Result<()> {
+    for i in 0u64..5 {
+        show_word(rt, m, Address(0x10_0ef8 + 8 * i))?;
+    }
+    Ok(())
+}
+
+// One word, or the byte that was lacking. Written line by line, as in report.rt.
 fn show_word<M: Memory>(rt: &impl Print, m: &mut M, at: Address) -> io::Result<()> {
     let start = at.0;
     match read_item::<8, u64, M>(m, at) {

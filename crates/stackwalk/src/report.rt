@@ -61,7 +61,7 @@ fn show_tail(rt: &impl Print, tail: Tail) -> io::Result<()> {
     }
 }
 
-fn show_refusal(rt: &impl Print, refusal: InfoRefusal) -> io::Result<()> {
+fn show_info_refusal(rt: &impl Print, refusal: InfoRefusal) -> io::Result<()> {
     let number = refusal.number();
     match refusal.slot {
         None => println!(rt; "    info refused with {number}"),
@@ -97,7 +97,7 @@ fn show_entry(rt: &impl Print, entry: Entry, area: InfoArea) -> io::Result<()> {
             show_codes(rt, area, entry.info)?;
             show_tail(rt, info.tail)
         }
-        Err(e) => show_refusal(rt, e),
+        Err(e) => show_info_refusal(rt, e),
     }
 }
 

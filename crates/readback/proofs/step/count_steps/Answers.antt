@@ -13,7 +13,7 @@ use Rattle.readback.proofs.step.count_steps.Goals as goal
 pub loop-code-init : goal.loop-code-init
 loop-code-init c =
     let i = viewed c.args.info.now in
-    let s = codes_start i c.into_iter-code-iterator.result (ap (λ it. gathered (codes_left it)) c.into_iter-code-iterator.ensures.into_iter_gives ∙ c.codes-code-items.ensures) c.requires in
+    let s = codes_start i c.into_iter-code-iterator.result (ap (λ it. gathered (codes_left it)) c.into_iter-code-iterator.ensures.into_iter_gives ∙ c.codes-code-items.ensures) c.requires.1 in
     (tt, tt, (s.0, s.1, omega (arith, s.3), ap (λ r. counted_in (bind r (steps_of_codes i.frame_register i.frame_offset))) s.2 ∙ more_none _))
 
 pub returns-in_err-code-clause-value : goal.returns-in_err-code-clause-value

@@ -18,8 +18,8 @@ loop-at-init c =
     let same = c.into_iter-at-iterator.ensures.into_iter_gives in
     let first : rev_source (zip_first c.into_iter-at-iterator.result) ≡ record { start = 0; end = c.args.end } = ap (λ z. rev_source (zip_first z)) same ∙ ap rev_source c.zip-at-items.ensures.first ∙ c.rev.ensures.source in
     let second : gathered (codes_left (zip_second c.into_iter-at-iterator.result)) ≡ codes_in i = ap (λ z. gathered (codes_left (zip_second z))) same ∙ ap (λ it. gathered (codes_left it)) c.zip-at-items.ensures.second ∙ c.codes.ensures in
-    let s = codes_start i (zip_second c.into_iter-at-iterator.result) second (codes_good (codes_in i) _ c.requires.readable) in
-    let steps = sym (ap (λ r. bind r (steps_of_codes i.frame_register i.frame_offset)) s.2) ∙ found_is (steps_in i) c.requires.readable in
+    let s = codes_start i (zip_second c.into_iter-at-iterator.result) second (codes_good (codes_in i) _ c.requires.readable.1) in
+    let steps = sym (ap (λ r. bind r (steps_of_codes i.frame_register i.frame_offset)) s.2) ∙ found_is (steps_in i) c.requires.readable.1 in
     rw first ((tt, tt), tt, refl, (s.0, found (steps_in i), [], s.1, steps, sym (append-nil (found (steps_in i))), omega arith, sym (take-append-drop c.args.end old)))
 
 pub returns-in_default : goal.returns-in_default
