@@ -3,6 +3,8 @@ ghost use Rattle.std.specs.Prelude.{◌≡◌};
 ghost use Rattle.layout.specs.Cursors.{HasRoom, wrote};
 
 // `at` is where the next byte goes; the bytes from there on are as the caller left them.
+// The place stands beside the slice, and the slice is not cut as `Write` for `&mut [u8]` cuts it, since a body's
+// calls reckon from how many bytes were written.
 #[derive(Drop)]
 pub struct Cursor<'a> {
     pub out: &'a mut [u8],

@@ -1,4 +1,5 @@
-// The plain data that every layer shares: addresses, registers and little-endian words.
+// The plain data that every layer shares: addresses, registers, little-endian words, refusals by number, and the cursor
+// that writes over a lent slice.
 #![tactic(auto)]
 
 pub mod address;

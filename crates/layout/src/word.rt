@@ -32,7 +32,7 @@ impl Word<2> for u16 {
         ensures bytes { result ≡ le_bytes 2 self }
         ensures bound { self < 256 ^ 2 }
     {
-        self.to_le_bytes()
+        u16::to_le_bytes(self)
     }
 
     ghost short = { Prim.search rules };
@@ -51,7 +51,7 @@ impl Word<4> for u32 {
         ensures bytes { result ≡ le_bytes 4 self }
         ensures bound { self < 256 ^ 4 }
     {
-        self.to_le_bytes()
+        u32::to_le_bytes(self)
     }
 
     ghost short = { Prim.search rules };
@@ -70,7 +70,7 @@ impl Word<8> for u64 {
         ensures bytes { result ≡ le_bytes 8 self }
         ensures bound { self < 256 ^ 8 }
     {
-        self.to_le_bytes()
+        u64::to_le_bytes(self)
     }
 
     ghost short = { Prim.search rules };
@@ -89,7 +89,7 @@ impl Word<16> for u128 {
         ensures bytes { result ≡ le_bytes 16 self }
         ensures bound { self < 256 ^ 16 }
     {
-        self.to_le_bytes()
+        u128::to_le_bytes(self)
     }
 
     ghost short = { Prim.search rules };
@@ -116,11 +116,8 @@ pub fn le_at<const N: usize, W: Word<N>>(bytes: &[u8], at: usize) -> W
 pub fn word_at<const N: usize, W: Word<N>>(bytes: &[u8], at: usize) -> Option<W>
     ensures { option_map W.value result ≡ word_at N bytes.now at }
 {
-    if lies_in(bytes.len(), at, N) {
-        Some(le_at(bytes, at))
-    } else {
-        None
-    }
+    let word = bytes.get(at..)?.first_chunk()?;
+    Some(W::of_le_bytes(*word))
 }
 
 // A word that would pass the end of its slice.

@@ -1,6 +1,6 @@
-use Rattle.layout.specs.Words.{le_bytes}
+use Rattle.std.proofs.Common.{◌∙◌}
+use Rattle.layout.proofs.Words.{bytes_are}
 use Rattle.layout.proofs.word.U16Word2.le_bytes.Goals as goal
 
 pub returns-clause-bytes : goal.returns-clause-bytes
-unfolding le_bytes
-returns-clause-bytes c = c.to_le_bytes.ensures
+returns-clause-bytes c = c.to_le_bytes.ensures ∙ bytes_are 1 c.args.self

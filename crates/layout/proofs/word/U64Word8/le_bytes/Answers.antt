@@ -1,8 +1,6 @@
-use Rattle.std.proofs.Common.{sym, ◌∙◌}
-use native.Mathlib.Nat.{div-div-eq-div-mul}
-use Rattle.layout.specs.Words.{le_bytes}
+use Rattle.std.proofs.Common.{◌∙◌}
+use Rattle.layout.proofs.Words.{bytes_are}
 use Rattle.layout.proofs.word.U64Word8.le_bytes.Goals as goal
 
 pub returns-clause-bytes : goal.returns-clause-bytes
-unfolding le_bytes
-returns-clause-bytes c = c.to_le_bytes.ensures ∙ sym (simp div-div-eq-div-mul)
+returns-clause-bytes c = c.to_le_bytes.ensures ∙ bytes_are 7 c.args.self
