@@ -11,9 +11,5 @@ pub fn rva(text: &[u8]) -> Result<Rva, Bad> {
 // A count, or `most` where it is larger.
 pub fn count(text: &[u8], most: usize) -> Result<usize, Bad> {
     let n: u64 = number(text)?;
-    if n < most as u64 {
-        Ok(n as usize)
-    } else {
-        Ok(most)
-    }
+    Ok(n.min(most as u64) as usize)
 }

@@ -1,8 +1,8 @@
 // Little-endian words in a byte slice, one set of functions for every width.
-ghost use Rattle.std.specs.Prelude.{◌≡◌, ℕ, ◌+◌, ◌^◌, ◌<◌, ◌≤◌, T, length, is_ok, if◌then◌else◌, Some, nat_le};
+ghost use Rattle.std.specs.Prelude.{◌≡◌, ℕ, ◌+◌, ◌^◌, ◌<◌, ◌≤◌, T, length, is_ok, Some, nat_le};
 ghost use Rattle.std.proofs.Common.{rules};
 ghost use Rattle.std.specs.Option.{option_map};
-ghost use Rattle.layout.specs.Words.{le_value, le_bytes, le_at, word_at, with_word, overwritten};
+ghost use Rattle.layout.specs.Words.{le_value, le_bytes, le_at, word_at, with_word};
 
 // A number that `N` bytes spell, the lowest first.
 pub trait Word<const N: usize>: Copy {

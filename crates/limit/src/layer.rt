@@ -1,5 +1,5 @@
 // The limit layer over any memory.
-ghost use Rattle.std.specs.Prelude.{◌≡◌, ℕ, true, ◌||◌, take, is_ok};
+ghost use Rattle.std.specs.Prelude.{◌≡◌, ℕ, true, ◌||◌, is_ok};
 ghost use Rattle.std.specs.Result.{result_map_both};
 ghost use Rattle.limit.specs.Refusals.{window_number};
 ghost use Rattle.limit.specs.Tables.{held};

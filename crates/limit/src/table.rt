@@ -1,5 +1,5 @@
 // The limit layer's windows: at most 16, kept in ascending order without overlap.
-ghost use Rattle.std.specs.Prelude.{◌≡◌, ℕ, ◌≤◌, true, take};
+ghost use Rattle.std.specs.Prelude.{◌≡◌, ◌≤◌, true, take};
 ghost use Rattle.limit.specs.Windows.{in_order};
 
 use crate::window::Window;

@@ -1,5 +1,5 @@
 // Windows of the limit layer, and the steps of admitting one.
-ghost use Rattle.std.specs.Prelude.{◌≡◌, ℕ, ◌-◌, ◌<◌, length, take};
+ghost use Rattle.std.specs.Prelude.{◌≡◌, ◌-◌, ◌<◌, length, take};
 ghost use Rattle.std.specs.List.{insert};
 ghost use Rattle.limit.specs.Refusals.{window_number};
 ghost use Rattle.limit.specs.Windows.{window_first, window_last, touches, overlaps_any, place_of};

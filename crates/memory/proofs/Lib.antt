@@ -1,3 +1,2 @@
 pub mod Items
-pub mod Passes
 pub mod Sources

@@ -1,12 +1,13 @@
 -- What a sparse dump shows, by the range that a search finds; and that its bytes lie in the run.
 use Rattle.std.proofs.Common.{◌≡◌, ℕ, ◌+◌, ◌-◌, ◌<◌, ◌≤◌, Bool, true, false, cond, ltb, leb, List, [], ◌∷◌, length, get_or, is_ok, Some, None, Ok, Err, Option, sym, refl, ap, ◌∙◌, arith}
 use Rattle.std.specs.List.{list_all}
+use Rattle.std.proofs.lemmas.List.Elements.{All-get_or}
+use Rattle.std.proofs.lemmas.List.Sums.{AllPass-from_list_all}
 use Rattle.std.proofs.lemmas.Bool.{and_parts, leb-true, ltb-true, true≢false}
 use Rattle.records.specs.Spans.{holds, ascending, onward, found}
 use Rattle.memory.specs.Byte.{Byte, shown, lacking}
 use Rattle.memory.specs.Sources.{within, reaches, range_first, range_last, source_verdict, sparse_map}
 use Rattle.memory.specs.declared.range.DumpRange.{DumpRange}
-use Rattle.memory.proofs.Passes.{pass_at}
 
 -- the byte of the range with this index
 abbrev pub byte_of : List DumpRange → List ℕ → ℕ → Option ℕ → Byte
@@ -41,5 +42,5 @@ module _ (rs : List DumpRange) (size : ℕ) (taken : is_ok (source_verdict rs si
   pub in_run : (i at : ℕ) (d : DumpRange) → i < length rs → range_first (get_or rs i d) ≤ at → at ≤ range_last (get_or rs i d) → (get_or rs i d).place + (at - (get_or rs i d).start.0) < size
   in_run i at d h l m =
       let r : DumpRange = get_or rs i d in
-      let p = and_parts (ltb 0 r.length) (leb (r.place + r.length) size) (pass_at (within size) rs i d h (taken_by (list_all (within size) rs) _ taken).0) in
+      let p = and_parts (ltb 0 r.length) (leb (r.place + r.length) size) (All-get_or (λ x. within size x ≡ true) rs i d h (AllPass-from_list_all (within size) rs (taken_by (list_all (within size) rs) _ taken).0)) in
       omega (arith, ltb-true 0 r.length p.0, leb-true (r.place + r.length) size p.1)

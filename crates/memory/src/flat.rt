@@ -1,5 +1,5 @@
 // A flat image: a run of bytes from a start address.
-ghost use Rattle.std.specs.Prelude.{◌≡◌, ℕ, length, Ok, Err, MatchResult};
+ghost use Rattle.std.specs.Prelude.{◌≡◌, Ok, Err, MatchResult};
 ghost use Rattle.memory.specs.Refusals.{source_number};
 ghost use Rattle.memory.specs.Sources.{flat_verdict, flat_map};
 

@@ -1,5 +1,5 @@
 // A sparse dump: ascending ranges, each with its place in one run of bytes.
-ghost use Rattle.std.specs.Prelude.{◌≡◌, ℕ, true, [], length, is_ok, if◌then◌else◌, Ok, Err, MatchResult};
+ghost use Rattle.std.specs.Prelude.{◌≡◌, true, [], length, is_ok, if◌then◌else◌, Ok, Err, MatchResult};
 ghost use Rattle.std.specs.Result.{result_map_both};
 ghost use Rattle.memory.specs.Refusals.{source_number};
 ghost use Rattle.memory.specs.Sources.{source_verdict, sparse_map};

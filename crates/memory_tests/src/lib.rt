@@ -21,6 +21,11 @@ mod sources;
 #[cfg(test)]
 mod words;
 
+#[cfg(test)]
+fn lacking(at: u64) -> Lacking {
+    Lacking { at: Address(at) }
+}
+
 // A byte through two limits over any memory: the outer windows first, then the inner ones, then what lies below.
 pub fn byte_through<M: Memory>(pile: &mut Limit<Limit<M>>, at: Address) -> Result<u8, Lacking>
     ensures answer { result ≡ answer (limited (held pile.old.windows) (limited (held pile.old.below.windows) (M.shows pile.old.below.below)) at.0) at }

@@ -1,21 +1,17 @@
 // The limit layer: windows, their refusals, and piles of limits.
-use crate::byte_through;
+use crate::{byte_through, lacking};
 use layout::address::Address;
 use limit::layer::Limit;
 use limit::window::WindowRefusal;
 use memory::flat::FlatImage;
-use memory::reading::{Lacking, Memory};
+use memory::reading::Memory;
 use std::test::Fail;
-
-fn lacking(at: u64) -> Result<u8, Lacking> {
-    Err(Lacking { at: Address(at) })
-}
 
 #[test]
 fn without_a_window_all_is_shown(rt: HostRuntime) -> Result<(), Fail> {
     let mut limit = Limit::new(FlatImage::new(Address(0x10), &[5, 6])?);
     assert_eq!(rt; limit.read(Address(0x11)), Ok(6));
-    assert_eq!(rt; limit.read(Address(0x12)), lacking(0x12));
+    assert_eq!(rt; limit.read(Address(0x12)), Err(lacking(0x12)));
     Ok(())
 }
 
@@ -23,10 +19,10 @@ fn without_a_window_all_is_shown(rt: HostRuntime) -> Result<(), Fail> {
 fn both_ends_belong_to_a_window(rt: HostRuntime) -> Result<(), Fail> {
     let mut limit = Limit::new(FlatImage::new(Address(0x10), &[0, 1, 2, 3, 4])?);
     limit.admit(Address(0x11), Address(0x12))?;
-    assert_eq!(rt; limit.read(Address(0x10)), lacking(0x10));
+    assert_eq!(rt; limit.read(Address(0x10)), Err(lacking(0x10)));
     assert_eq!(rt; limit.read(Address(0x11)), Ok(1));
     assert_eq!(rt; limit.read(Address(0x12)), Ok(2));
-    assert_eq!(rt; limit.read(Address(0x13)), lacking(0x13));
+    assert_eq!(rt; limit.read(Address(0x13)), Err(lacking(0x13)));
     Ok(())
 }
 
@@ -44,7 +40,7 @@ fn windows_come_in_any_order_and_may_touch(rt: HostRuntime) -> Result<(), Fail> 
         Err(WindowRefusal::Crossing)
     );
     limit.admit(Address(0x14), Address(0x14))?;
-    assert_eq!(rt; limit.read(Address(0x10)), lacking(0x10));
+    assert_eq!(rt; limit.read(Address(0x10)), Err(lacking(0x10)));
     assert_eq!(rt; limit.read(Address(0x12)), Ok(2));
     assert_eq!(rt; limit.read(Address(0x14)), Ok(4));
     Ok(())
@@ -65,7 +61,7 @@ fn the_seventeenth_window_is_refused(rt: HostRuntime) -> Result<(), Fail> {
         Err(WindowRefusal::Crossing)
     );
     assert_eq!(rt; limit.read(Address(0)), Ok(9));
-    assert_eq!(rt; limit.read(Address(100)), lacking(100));
+    assert_eq!(rt; limit.read(Address(100)), Err(lacking(100)));
     Ok(())
 }
 
@@ -87,8 +83,8 @@ fn two_limits_show_what_both_admit(rt: HostRuntime) -> Result<(), Fail> {
     inner.admit(Address(0), Address(2))?;
     let mut pile = Limit::new(inner);
     pile.admit(Address(1), Address(3))?;
-    assert_eq!(rt; byte_through(&mut pile, Address(0)), lacking(0));
+    assert_eq!(rt; byte_through(&mut pile, Address(0)), Err(lacking(0)));
     assert_eq!(rt; byte_through(&mut pile, Address(2)), Ok(2));
-    assert_eq!(rt; byte_through(&mut pile, Address(3)), lacking(3));
+    assert_eq!(rt; byte_through(&mut pile, Address(3)), Err(lacking(3)));
     Ok(())
 }

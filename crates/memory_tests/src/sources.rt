@@ -1,8 +1,9 @@
 // Flat images and sparse dumps: what they show, what they lack, what they refuse.
+use crate::lacking;
 use layout::address::Address;
 use memory::flat::FlatImage;
 use memory::range::{DumpRange, SourceRefusal, check_ranges};
-use memory::reading::{Lacking, Memory};
+use memory::reading::Memory;
 use memory::sparse::SparseDump;
 use std::test::Fail;
 
@@ -14,29 +15,25 @@ fn range(start: u64, length: u64, place: u64) -> DumpRange {
     }
 }
 
-fn lacking(at: u64) -> Result<u8, Lacking> {
-    Err(Lacking { at: Address(at) })
-}
-
 #[test]
 fn a_hole_is_refused_with_its_address(rt: HostRuntime) -> Result<(), Fail> {
     let ranges = [range(0x1000, 2, 0), range(0x1008, 2, 2)];
     let mut dump = SparseDump::empty();
     dump.load(&ranges, &[0x11, 0x22, 0x00, 0x44])?;
     assert_eq!(rt; dump.read(Address(0x1001)), Ok(0x22));
-    assert_eq!(rt; dump.read(Address(0x1002)), lacking(0x1002));
-    assert_eq!(rt; dump.read(Address(0x1007)), lacking(0x1007));
+    assert_eq!(rt; dump.read(Address(0x1002)), Err(lacking(0x1002)));
+    assert_eq!(rt; dump.read(Address(0x1007)), Err(lacking(0x1007)));
     assert_eq!(rt; dump.read(Address(0x1008)), Ok(0x00));
-    assert_eq!(rt; dump.read(Address(0x100a)), lacking(0x100a));
+    assert_eq!(rt; dump.read(Address(0x100a)), Err(lacking(0x100a)));
     Ok(())
 }
 
 #[test]
 fn an_empty_dump_shows_nothing(rt: HostRuntime) -> Result<(), Fail> {
     let mut dump = SparseDump::empty();
-    assert_eq!(rt; dump.read(Address(0)), lacking(0));
+    assert_eq!(rt; dump.read(Address(0)), Err(lacking(0)));
     dump.load(&[], &[1, 2, 3])?;
-    assert_eq!(rt; dump.read(Address(1)), lacking(1));
+    assert_eq!(rt; dump.read(Address(1)), Err(lacking(1)));
     Ok(())
 }
 
@@ -45,7 +42,7 @@ fn sources_may_end_at_the_last_address(rt: HostRuntime) -> Result<(), Fail> {
     let last = u64::MAX;
     let mut flat = FlatImage::new(Address(last - 1), &[7, 8])?;
     assert_eq!(rt; flat.read(Address(last)), Ok(8));
-    assert_eq!(rt; flat.read(Address(0)), lacking(0));
+    assert_eq!(rt; flat.read(Address(0)), Err(lacking(0)));
     assert_eq!(rt; check_ranges(&[range(last - 1, 2, 0)], 2), Ok(()));
     assert_eq!(rt;
         check_ranges(&[range(last - 1, 3, 0)], 3),
@@ -96,6 +93,6 @@ fn a_refused_load_keeps_the_dump(rt: HostRuntime) -> Result<(), Fail> {
     dump.load(&good, &[1, 2])?;
     assert_eq!(rt; dump.load(&bad, &[3, 4]), Err(SourceRefusal::OutsideRun));
     assert_eq!(rt; dump.read(Address(0x20)), Ok(2));
-    assert_eq!(rt; dump.read(Address(0x30)), lacking(0x30));
+    assert_eq!(rt; dump.read(Address(0x30)), Err(lacking(0x30)));
     Ok(())
 }

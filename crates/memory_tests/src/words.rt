@@ -1,17 +1,16 @@
 // Items read through piles, and words in a slice.
-use crate::word_through;
+use crate::{lacking, word_through};
 use layout::address::Address;
 use layout::word::{PastEnd, word_at, write_word};
 use limit::layer::Limit;
 use memory::flat::FlatImage;
 use memory::item::{ItemFault, read_item};
 use memory::range::DumpRange;
-use memory::reading::Lacking;
 use memory::sparse::SparseDump;
 use std::test::Fail;
 
-fn lacking(at: u64) -> Result<u64, ItemFault> {
-    Err(ItemFault::Unread(Lacking { at: Address(at) }))
+fn unread(at: u64) -> Result<u64, ItemFault> {
+    Err(ItemFault::Unread(lacking(at)))
 }
 
 #[test]
@@ -41,8 +40,8 @@ fn the_first_lacking_byte_ends_a_word(rt: HostRuntime) -> Result<(), Fail> {
     let mut inner = Limit::new(dump);
     inner.admit(Address(0x100), Address(0x104))?;
     let mut pile = Limit::new(inner);
-    assert_eq!(rt; word_through(&mut pile, Address(0x100)), lacking(0x105));
-    assert_eq!(rt; word_through(&mut pile, Address(0xff)), lacking(0xff));
+    assert_eq!(rt; word_through(&mut pile, Address(0x100)), unread(0x105));
+    assert_eq!(rt; word_through(&mut pile, Address(0xff)), unread(0xff));
     Ok(())
 }
 
@@ -56,7 +55,7 @@ fn a_word_past_the_last_address_is_50_unless_a_byte_was_lacking(
         word_through(&mut whole, Address(at)),
         Err(ItemFault::PastEnd(Address(at)))
     );
-    assert_eq!(rt; word_through(&mut whole, Address(at - 1)), lacking(at - 1));
+    assert_eq!(rt; word_through(&mut whole, Address(at - 1)), unread(at - 1));
     Ok(())
 }
 

@@ -18,6 +18,7 @@ impl Numbered for NoRecord {
 }
 
 // The first `len` of the caller's records are the list; the others are as the caller left them.
+// With a count beside the slice: the library allocates nothing, so the records are the caller's and no Vec.
 #[derive(Drop)]
 pub struct RecordList<'a, T> {
     records: &'a mut [T],
