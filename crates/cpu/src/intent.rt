@@ -1,5 +1,5 @@
 // What an instruction is about to do, from the registers alone.
-ghost use Rattle.std.specs.Prelude.{◌≡◌, Some, None};
+ghost use Rattle.std.specs.Prelude.{◌≡◌, Some};
 ghost use Rattle.cpu.specs.Effects.{signed, moved, moved_back, intended, register_value, below, above, place};
 
 use layout::registers::{RSP, Registers};

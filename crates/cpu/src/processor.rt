@@ -1,5 +1,5 @@
 // A register set over a stack area, and carrying intents out on them where the area and RSP allow it.
-ghost use Rattle.std.specs.Prelude.{◌≡◌, ℕ, ◌-◌, ◌<◌, true, length, is_ok, if◌then◌else◌, Ok, Err};
+ghost use Rattle.std.specs.Prelude.{◌≡◌, ◌-◌, true, is_ok, if◌then◌else◌, Ok, Err};
 ghost use Rattle.std.specs.Result.{result_map_both};
 ghost use Rattle.layout.specs.Words.{le_at};
 ghost use Rattle.cpu.specs.Effects.{intended};
@@ -101,7 +101,7 @@ impl<'a> Processor<'a> {
     fn permits(&self, intent: Intent) -> bool
         ensures { result ≡ permitted_in intent (state_of self.now) }
     {
-        // By a match: a closure that takes `self` along would need a clause of its own.
+        // By a match: with `is_none_or` the proof wants a file of its own.
         let reached = match intent.access {
             Some(a) => self.area().holds(a.at()),
             None => true,

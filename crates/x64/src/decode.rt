@@ -1,5 +1,5 @@
 // The instruction that bytes begin with, in either displacement size.
-ghost use Rattle.std.specs.Prelude.{◌≡◌, Option, ℕ, ◌<◌, ◌≤◌, Bool, true, List, ◌++◌, length, Some, slice_index};
+ghost use Rattle.std.specs.Prelude.{◌≡◌, Option, ℕ, ◌<◌, ◌≤◌, Bool, true, List, ◌++◌, length, Some};
 ghost use Rattle.x64.specs.Decodings.{displaced, push_or_pop, plain, rsp_form, set_form, at_rsp_form, at_frame_form, memory_in, set_in, rexed, formed, extended, decoded};
 ghost use Rattle.x64.specs.Encodings.{encode_as, well_formed};
 ghost use Rattle.x64.specs.Laws.{Form};
