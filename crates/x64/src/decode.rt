@@ -75,7 +75,7 @@ fn form_on_rsp(group: u8, d: u32) -> Option<Instruction>
     }
 }
 
-// Not one function with the next: register 4 has no form here, and there the lea alone, which no other register has there.
+// Apart from the next function: at RSP, register 4 has no form; at a frame register it has the lea alone, which no other has.
 fn form_at_rsp(op: u8, register: u8, displacement: u32) -> Option<Instruction>
     ensures { result ≡ at_rsp_form op register displacement }
 {
