@@ -1,6 +1,6 @@
 // The instruction that bytes begin with, in either displacement size.
-ghost use Rattle.std.specs.Prelude.{◌≡◌, ◌≢◌, Option, ℕ, ◌<◌, ◌≤◌, Bool, true, List, ◌++◌, length, Some};
-ghost use Rattle.x64.specs.Decodings.{displaced, plain, upper_plain, rsp_form, set_form, at_rsp_form, at_frame_form, memory_in, set_in, rexed, formed, extended, decoded};
+ghost use Rattle.std.specs.Prelude.{◌≡◌, Option, ℕ, ◌<◌, ◌≤◌, Bool, true, List, ◌++◌, length, Some};
+ghost use Rattle.x64.specs.Decodings.{displaced, push_or_pop, plain, rsp_form, set_form, at_rsp_form, at_frame_form, memory_in, set_in, rexed, formed, extended, decoded};
 ghost use Rattle.x64.specs.Encodings.{encode_as, well_formed};
 ghost use Rattle.x64.specs.Laws.{Form};
 ghost use Rattle.x64.specs.declared.instruction.Instruction.{Instruction};
@@ -42,12 +42,10 @@ fn with_displacement<F: FnOnce(u32) -> Option<Instruction>>(
     Some((form(d)?, end))
 }
 
-// Push or pop of one of eight registers, of which the first has the number `first`: 8, or 0 for a byte that stands alone,
-// but for RSP and for a nop or a return.
+// Push or pop of one of eight registers, of which the first has the number `first`.
 fn push_or_pop(b: u8, first: u8) -> Option<Instruction>
     requires { first ≤ 8 }
-    ensures lower { first ≡ 0 → b ≢ 84 → b ≢ 92 → b ≢ 144 → b ≢ 195 → result ≡ plain b }
-    ensures upper { first ≡ 8 → result ≡ upper_plain b }
+    ensures { result ≡ push_or_pop first b }
 {
     match b {
         0x50..=0x57 => Some(Instruction::Push(first + (b - 0x50))),

@@ -1,4 +1,4 @@
-use Rattle.std.proofs.Common.{◌≡◌, ℕ, ◌-◌, ◌<◌, ◌≤◌, Bool, true, ◌⊎◌, List, ◌++◌, length, get_or, Some, Option, inl, refl, sym, ap, ◌∙◌, arith, rules}
+use Rattle.std.proofs.Common.{◌≡◌, ℕ, ◌-◌, ◌<◌, ◌≤◌, Bool, true, ◌⊎◌, List, ◌++◌, length, get_or, Some, Option, inl, sym, ap, ◌∙◌, arith, rules}
 use Rattle.std.proofs.lemmas.Bool.Decides.{nat_tests}
 use Rattle.x64.specs.Decodings.{rexed, ending, plain, upper_plain, decoded}
 use Rattle.x64.specs.Encodings.{encode_as, well_formed}
@@ -34,7 +34,7 @@ returns-in_ok-get-in-65 c =
     let here : get_or c.args.bytes.now 0 0 ≡ c.in_ok-b.field-0.now = search rules in
     let next : c.in_ok-get-in-65.field-0.now ≡ get_or c.args.bytes.now 1 0 = search rules in
     let is : c.map.result ≡ ending c.push_or_pop.result 2 = search rules in
-    both c.args.bytes.now _ (is ∙ ap (λ i. ending i 2) (c.push_or_pop.ensures.upper refl ∙ ap upper_plain next) ∙ sym (by_upper c.args.bytes.now (here ∙ c.in-65.is)))
+    both c.args.bytes.now _ (is ∙ ap (λ i. ending i 2) (c.push_or_pop.ensures ∙ ap upper_plain next) ∙ sym (by_upper c.args.bytes.now (here ∙ c.in-65.is)))
 
 pub returns-in-72-to-79 : goal.returns-in-72-to-79
 returns-in-72-to-79 c =
