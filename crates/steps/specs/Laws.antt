@@ -101,6 +101,11 @@ module _ (f o : ℕ) (s : State) (p : preserved f ≡ true) (l : f < 16) (small 
       let plain : signed o ≡ o = cond-true _ _ _ (lt-ltb o (2 ^ 31) small) in
       get_or-set_other framed 4 f (rsp s) 0 (not_rsp f p) ∙ get_or-set_same s.registers.integer f (moved (rsp s) o) 0 (omega (arith, k.0)) ∙ ap (λ d. (rsp s + d) % 2 ^ 64) plain ∙ omega arith
 
+  framed_rsp : rsp (after (LeaAtRsp f o) s) ≡ rsp s
+  framed_rsp =
+      let four : 4 < length framed = simp length-set (omega (arith, k.0)) in
+      get_or-set_same framed 4 (rsp s) 0 four
+
   pub frame_restores : (t : State) (lost : ℕ → Bool) → lost f ≡ false → Later lost (after (LeaAtRsp f o) s) t → GivesBack (λ q. (q == f) || lost q) s (undo_frame f o t)
   frame_restores t lost keeps later =
       let wide : length t.registers.integer ≡ 16 = later.0 in
