@@ -5,7 +5,7 @@ use Rattle.layout.specs.Words.{le_at}
 use Rattle.tables.specs.Entries.{entry_at}
 use Rattle.tables.specs.declared.entry.Entry.{Entry}
 use Rattle.infos.specs.Codes.{bind}
-use Rattle.infos.specs.Refusals.{InfoFault, reason_number, at_slot, info_fault}
+use Rattle.infos.specs.Refusals.{InfoFault, reason_number, outside, info_fault}
 use Rattle.infos.specs.Sequences.{codes_of}
 use Rattle.infos.specs.declared.info.Info.{Info}
 use Rattle.infos.specs.declared.info.Tail.{Tail}
@@ -79,4 +79,4 @@ located area start rva =
 
 -- the info at an RVA, if its codes are good too
 abbrev pub info_at : List ℕ → ℕ → ℕ → Result InfoOf InfoFault
-info_at area start rva = bind (at_slot 65535 (located area start rva)) (λ i. bind (codes_of i.prologue i.frame_register i.slots) (λ _. Ok i))
+info_at area start rva = bind (outside (located area start rva)) (λ i. bind (codes_of i.prologue i.frame_register i.slots) (λ _. Ok i))

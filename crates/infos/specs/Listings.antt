@@ -1,5 +1,5 @@
 -- The codes of an info in the caller's records.
-use Rattle.std.specs.Prelude.{ℕ, cond, List, [], ◌++◌, length, drop, Ok, Err, Result, nat_le}
+use Rattle.std.specs.Prelude.{ℕ, cond, List, [], ◌++◌, length, drop, None, Ok, Err, Result, nat_le}
 use Rattle.infos.specs.Codes.{bind}
 use Rattle.infos.specs.Infos.{info_at}
 use Rattle.infos.specs.Refusals.{InfoFault, fault_at}
@@ -18,7 +18,7 @@ codes_at area start rva = bind (info_at area start rva) (λ i. codes_of i.prolog
 
 -- how many codes are listed: what is wrong with the info first, and last 22 where the records are too few
 abbrev pub listing : List ℕ → ℕ → ℕ → ℕ → Result ℕ InfoFault
-listing area start rva room = bind (codes_at area start rva) (λ cs. cond (nat_le (length cs) room) (Ok (length cs)) (Err (fault_at 65535 22)))
+listing area start rva room = bind (codes_at area start rva) (λ cs. cond (nat_le (length cs) room) (Ok (length cs)) (Err (fault_at None 22)))
 
 -- the records after that
 abbrev pub listed_in : List ℕ → ℕ → ℕ → List Code → Result ℕ ListRefusal → List Code
