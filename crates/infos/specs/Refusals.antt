@@ -1,5 +1,5 @@
 -- Refusals of infos, by number and slot.
-use Rattle.std.specs.Prelude.{ℕ, Some, None, Option, Result}
+use Rattle.std.specs.Prelude.{ℕ, None, Option, Result}
 use Rattle.std.specs.Result.{result_map_both}
 use Rattle.infos.specs.declared.refusal.InfoReason.{InfoReason}
 use Rattle.infos.specs.declared.refusal.InfoReason.TheVariants.{Cut, Version, Flags, BadCode, PastCount, Disorder}
