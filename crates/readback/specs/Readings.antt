@@ -11,6 +11,7 @@ use Rattle.plan.specs.Steps.{step}
 use Rattle.plan.specs.declared.text.Counts.{Counts}
 use Rattle.plan.specs.declared.text.StepRecord.{StepRecord}
 use Rattle.tables.specs.Modules.{module_verdict}
+use Rattle.tables.specs.declared.area.InfoArea.{InfoArea}
 use Rattle.tables.specs.declared.entry.Entry.{Entry}
 use Rattle.tables.specs.declared.module.Module.{Module}
 use Rattle.readback.specs.declared.read.Lengths.{Lengths}
@@ -48,6 +49,13 @@ function_steps area start e = bind (info_at area start e.info.0) (λ i. cond (i.
 unfoldable pub read_steps : List ℕ → ℕ → List Entry → Result (List (List StepRecord)) InfoFault
 read_steps area start [] = Ok []
 read_steps area start (e ∷ es) = bind (function_steps area start e) (λ ss. bind (read_steps area start es) (λ rest. Ok (ss ∷ rest)))
+
+-- these two, of an area as a struct
+abbrev pub function_steps_in : InfoArea → Entry → Result (List StepRecord) InfoFault
+function_steps_in area e = function_steps area.bytes.now area.start.0 e
+
+abbrev pub read_steps_in : InfoArea → List Entry → Result (List (List StepRecord)) InfoFault
+read_steps_in area es = read_steps area.bytes.now area.start.0 es
 
 -- the steps of functions, one function after another
 unfoldable pub joint : List (List StepRecord) → List StepRecord
