@@ -1,5 +1,5 @@
 // All codes of an info in the caller's records.
-ghost use Rattle.std.specs.Prelude.{◌≡◌, ℕ, ◌≤◌, true, ◌++◌, length, drop, is_ok};
+ghost use Rattle.std.specs.Prelude.{◌≡◌, ◌≤◌, true, ◌++◌, length, drop, is_ok};
 ghost use Rattle.std.specs.Result.{result_map_both};
 ghost use Rattle.infos.specs.Codings.{codes_left};
 ghost use Rattle.infos.specs.Listings.{listing_in, records_in, listed};

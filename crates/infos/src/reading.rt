@@ -1,5 +1,5 @@
 // Reading the unwind info at an RVA.
-ghost use Rattle.std.specs.Prelude.{◌≡◌, ℕ, ◌+◌, ◌*◌, ◌^◌, ◌≤◌, length};
+ghost use Rattle.std.specs.Prelude.{◌≡◌, ◌+◌, ◌*◌, ◌^◌, ◌≤◌, length};
 ghost use Rattle.infos.specs.Infos.{padded, tail_size, tail_in, tail_view, header_in, header_view, located_in, info_in, info_view};
 
 use crate::info::{Info, Tail};

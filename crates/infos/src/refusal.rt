@@ -1,5 +1,5 @@
 // Why an unwind info is refused.
-ghost use Rattle.std.specs.Prelude.{◌≡◌, ℕ, Some, None};
+ghost use Rattle.std.specs.Prelude.{◌≡◌, Some, None};
 ghost use Rattle.std.specs.Option.{unwrap_or};
 ghost use Rattle.infos.specs.Refusals.{reason_number, fault_at, info_fault, info_number, list_number};
 ghost use Rattle.infos.specs.declared.refusal.ListRefusal.TheVariants.{BadInfo};
