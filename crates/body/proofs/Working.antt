@@ -9,7 +9,7 @@ use Rattle.layout.proofs.Cursors.{Rest, begin, recast}
 use Rattle.x64.specs.Encodings.{encode}
 use Rattle.x64.specs.declared.instruction.Instruction.{Instruction}
 use Rattle.x64.specs.declared.instruction.Instruction.TheVariants.{Ret}
-use Rattle.plan.specs.Bodies.{bytes, forward, backward, enter, operation_instruction, work, loading, leave_by, popping, leave, steps_of, function_bytes, function_size}
+use Rattle.plan.specs.Bodies.{bytes, backward, enter, operation_instruction, work, loading, leave_by, popping, leave, steps_of, function_bytes, function_size}
 use Rattle.plan.specs.Functions.{Function}
 use Rattle.plan.specs.Operations.{operation_of}
 use Rattle.plan.specs.Steps.{block, frame}
@@ -18,7 +18,7 @@ use Rattle.plan.specs.declared.step.Step.{Step}
 use Rattle.plan.specs.declared.text.OperationRecord.{OperationRecord}
 use Rattle.steps.specs.declared.set_frame.SetFrameStep.{SetFrameStep}
 use Rattle.plan.proofs.Sizes.{same_operation, few_bytes}
-use Rattle.body.proofs.Bytes.{bytes-append, same_length, one}
+use Rattle.body.proofs.Bytes.{bytes-append, one}
 
 -- how many bytes an operation has, wherever it stands
 abbrev pub own_size : OperationRecord → ℕ
@@ -70,7 +70,7 @@ function_parts st at f =
     let worked = work st (at + length (bytes entered)) (map operation_of f.operations) in
     bytes-append entered (worked ++ leave (steps_of f)) ∙ ap (λ l. bytes entered ++ l) (bytes-append worked (leave (steps_of f)))
 
-leave_sized : (ss : List Step) → length (bytes (leave ss)) ≡ length (bytes (forward (loading (frame ss)) ss)) + length (bytes (leave_by (frame ss) (block ss))) + length (bytes (forward popping ss)) + 1
+leave_sized : (ss : List Step) → length (bytes (leave ss)) ≡ length (bytes (backward (loading (frame ss)) ss)) + length (bytes (leave_by (frame ss) (block ss))) + length (bytes (backward popping ss)) + 1
 leave_sized ss =
     let loads = bytes (backward (loading (frame ss)) ss) in
     let middle = bytes (leave_by (frame ss) (block ss)) in
@@ -79,9 +79,7 @@ leave_sized ss =
     let b = length-append loads (middle ++ (pops ++ encode Ret)) in
     let c = length-append middle (pops ++ encode Ret) in
     let d = length-append pops (encode Ret) in
-    let e = same_length (loading (frame ss)) ss in
-    let f = same_length popping ss in
-    omega (arith, a, b, c, d, e, f)
+    omega (arith, a, b, c, d)
 
 -- the size by parts, the same wherever the function stands
 pub function_sized : (st : List ℕ) (at : ℕ) (f : Function) → length (function_bytes st at f)
@@ -96,8 +94,8 @@ function_sized st at f =
     omega (arith, a, b, c, d)
 
 pub size_by_parts : (f : Function) → function_size f
-    ≡ length (bytes (enter (steps_of f))) + length (bytes (work [] 0 (map operation_of f.operations))) + length (bytes (forward (loading (frame (steps_of f))) (steps_of f)))
-    + length (bytes (leave_by (frame (steps_of f)) (block (steps_of f)))) + length (bytes (forward popping (steps_of f))) + 1
+    ≡ length (bytes (enter (steps_of f))) + length (bytes (work [] 0 (map operation_of f.operations))) + length (bytes (backward (loading (frame (steps_of f))) (steps_of f)))
+    + length (bytes (leave_by (frame (steps_of f)) (block (steps_of f)))) + length (bytes (backward popping (steps_of f))) + 1
 size_by_parts f =
     let a = function_sized [] 0 f in
     let b = leave_sized (steps_of f) in

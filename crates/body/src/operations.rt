@@ -10,7 +10,8 @@ use plan::text::OperationRecord;
 use x64::encode::{emit, encoded_length};
 use x64::instruction::Instruction;
 
-// Where a function starts, 0 where there is none.
+// Where a function starts, 0 where there is none, as the definition has it: sizes are counted with no starts at all, and in
+// what is written it does not come up, since a plan is checked before.
 fn start_of(starts: &[u32], function: u8) -> u32
     ensures { result ≡ slice_index starts.now function }
 {
