@@ -1,7 +1,7 @@
 // A whole function: prologue, operations, loads of the saves, epilogue.
-ghost use Rattle.std.specs.Prelude.{◌≡◌, ℕ, ◌+◌, ◌*◌, ◌^◌, ◌<◌, ◌≤◌, [], ◌∷◌, ◌++◌, map, length};
+ghost use Rattle.std.specs.Prelude.{◌≡◌, ◌+◌, ◌^◌, ◌<◌, ◌≤◌, map, length};
 ghost use Rattle.layout.specs.Cursors.{HasRoom, wrote};
-ghost use Rattle.plan.specs.Bodies.{bytes, less, leave_by, leave, function_bytes, function_size};
+ghost use Rattle.plan.specs.Bodies.{bytes, leave_by, leave, function_bytes, function_size};
 ghost use Rattle.plan.specs.Functions.{function_of};
 ghost use Rattle.plan.specs.Steps.{step_of};
 ghost use Rattle.body.specs.Parts.{listed};

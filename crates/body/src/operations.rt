@@ -1,5 +1,5 @@
 // The instructions of a function's operations.
-ghost use Rattle.std.specs.Prelude.{◌≡◌, ℕ, ◌+◌, ◌*◌, ◌^◌, ◌<◌, ◌≤◌, [], map, length, slice_index};
+ghost use Rattle.std.specs.Prelude.{◌≡◌, ◌+◌, ◌^◌, ◌<◌, ◌≤◌, [], map, length, slice_index};
 ghost use Rattle.layout.specs.Cursors.{HasRoom, wrote};
 ghost use Rattle.plan.specs.Bodies.{bytes, operation_instruction, work};
 ghost use Rattle.plan.specs.Operations.{operation_of};

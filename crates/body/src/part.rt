@@ -1,10 +1,9 @@
 // The instructions that steps give: the prologue, the loads of saves and the pops.
 ghost use Rattle.std.specs.Iterator.{AlwaysYields, IsFinite};
-ghost use Rattle.std.specs.Prelude.{◌≡◌, ℕ, ◌+◌, ◌*◌, ◌≤◌, List, map, length};
+ghost use Rattle.std.specs.Prelude.{◌≡◌, ◌*◌, ◌≤◌, List, map, length};
 ghost use Rattle.layout.specs.Cursors.{HasRoom, wrote};
 ghost use Rattle.x64.specs.declared.instruction.Instruction.{Instruction};
 ghost use Rattle.plan.specs.Steps.{step_of};
-ghost use Rattle.plan.specs.declared.step.Step.{Step};
 ghost use Rattle.plan.specs.Bodies.{bytes, enter, loading, popping};
 ghost use Rattle.body.specs.Parts.{listed};
 

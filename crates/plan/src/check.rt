@@ -1,5 +1,5 @@
 // Which descriptions are accepted.
-ghost use Rattle.std.specs.Prelude.{◌≡◌, ℕ, ◌+◌, ◌^◌, ◌<◌, ◌≤◌, ◌&&◌, [], map, length, Ok, ◌==◌};
+ghost use Rattle.std.specs.Prelude.{◌≡◌, ◌+◌, ◌^◌, ◌<◌, ◌≤◌, ◌&&◌, [], map, length, ◌==◌};
 ghost use Rattle.plan.specs.Functions.{text_of, function_of, functions_of};
 ghost use Rattle.plan.specs.Refusals.{reason_number, told};
 ghost use Rattle.plan.specs.Steps.{step_of};
