@@ -44,7 +44,8 @@ pub(crate) fn operations_size(operations: &[OperationRecord]) -> usize
         .sum()
 }
 
-// Writes the operations, from an RVA on.
+// Writes the operations, from an RVA on. Not as a part: each instruction is made from the place at which it will stand, and no
+// proof of a chain goes through a closure that moves such a place on.
 pub(crate) fn write_operations(
     operations: &[OperationRecord],
     starts: &[u32],
