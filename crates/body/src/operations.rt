@@ -44,8 +44,8 @@ pub(crate) fn operations_size(operations: &[OperationRecord]) -> usize
         .sum()
 }
 
-// Writes the operations, from an RVA on. Not as a part: each instruction is made from the place at which it will stand, and no
-// proof of a chain goes through a closure that moves such a place on.
+// Writes the operations, from an RVA on. By a loop: each instruction is made from the place at which it will stand, and in a
+// chain the closure would carry that place, with a bound on it owed at each of its calls.
 pub(crate) fn write_operations(
     operations: &[OperationRecord],
     starts: &[u32],
