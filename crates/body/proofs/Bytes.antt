@@ -1,5 +1,5 @@
 -- The bytes of instructions, by parts.
-use Rattle.std.proofs.Common.{◌≡◌, ℕ, suc, ◌+◌, List, [], ◌∷◌, ◌++◌, map, length, reverse, get_or, drop, Some, None, Option, Bor, sym, refl, ap, ◌∙◌, subst}
+use Rattle.std.proofs.Common.{◌≡◌, ℕ, suc, ◌+◌, ◌≤◌, List, [], ◌∷◌, ◌++◌, map, length, reverse, get_or, drop, Some, None, Option, Bor, sym, refl, ap, ◌∙◌, subst, arith}
 use Rattle.std.specs.Iterator.{AlwaysYields, Yields}
 use Rattle.std.specs.Iterator.Adapters.{map_source, map_callee, filter_map_source, filter_map_callee, filter_map_steps, rev_source, rev_steps}
 use Rattle.std.specs.List.{filter_map, cons_option, sum_by}
@@ -61,6 +61,21 @@ unfolding forward
 forward-append g [] ys = refl
 forward-append g (x ∷ xs) ys = ap (λ l. g x ++ l) (forward-append g xs ys) ∙ sym (append_assoc (g x) (forward g xs) (forward g ys))
 
+-- either direction has as many bytes
+pub same_length : (g : Step → List Instruction) (ss : List Step) → length (bytes (backward g ss)) ≡ length (bytes (forward g ss))
+unfolding backward forward
+same_length g [] = refl
+same_length g (s ∷ ss) =
+    ap length (bytes-append (backward g ss) (g s)) ∙ length-append (bytes (backward g ss)) (bytes (g s))
+    ∙ ap (λ n. n + length (bytes (g s))) (same_length g ss)
+    ∙ omega (arith, ap length (bytes-append (g s) (forward g ss)), length-append (bytes (g s)) (bytes (forward g ss)))
+
+-- with one instruction at most for each step, there are no more than steps
+pub forward-count : (g : Step → List Instruction) → ((s : Step) → length (g s) ≤ 1) → (ss : List Step) → length (forward g ss) ≤ length ss
+unfolding forward
+forward-count g h [] = omega arith
+forward-count g h (s ∷ ss) = omega (arith, length-append (g s) (forward g ss), h s, forward-count g h ss)
+
 -- last to first is first to last of the reverse
 backward_reversed : (g : Step → List Instruction) (rs : List StepRecord) → backward g (map step_of rs) ≡ forward g (map step_of (reverse rs))
 unfolding forward backward
@@ -109,7 +124,7 @@ cons_listed : (o : Option Instruction) (is : List Instruction) → cons_option o
 cons_listed None is = refl
 cons_listed (Some i) is = refl
 
--- what g gives for each step from the last on, of which there is one instruction at most for each
+-- what g gives for steps, one instruction at most for each
 module _ (g : Step → List Instruction) (h : (s : Step) → listed (first (g s)) ≡ g s) where
   given : (rs : List StepRecord) → filter_map (λ r. first (g (step_of r))) rs ≡ forward g (map step_of rs)
   unfolding forward
@@ -118,6 +133,14 @@ module _ (g : Step → List Instruction) (h : (s : Step) → listed (first (g s)
       cons_listed (first (g (step_of r))) (filter_map (λ x. first (g (step_of x))) rs)
       ∙ ap (λ l. l ++ filter_map (λ x. first (g (step_of x))) rs) (h (step_of r))
       ∙ ap (λ l. g (step_of r) ++ l) (given rs)
+
+  -- for each step from the first on
+  pub yields_front : {F : Type 0} (called : Mut F (Bor StepRecord × Unit {0}) (Option Instruction)) {f : F} (s : FilterMap (Iter StepRecord) F) (rs : List StepRecord) → iter_rest (filter_map_source s) ≡ rs → filter_map_callee s ≡ f
+      → ((x : Bor StepRecord) (r : Option Instruction) (q : F) → Called called f (x, tt) r q → (q ≡ f) × (listed r ≡ g (step_of x.now)))
+      → AlwaysYields (filter_map_steps fronts called) (λ i. i) s (forward g (map step_of rs))
+  yields_front called {f} s rs e c k =
+      subst (AlwaysYields (filter_map_steps fronts called) (λ i. i) s) (given rs)
+      (YieldsList-from_filter_map called (λ r. first (g (step_of r))) (YieldsList-from_slice rs e) c (λ x r q p. let y = k x r q p in (y.0, first_listed _ _ y.1))).runs
 
   pub yields_back : {F : Type 0} (called : Mut F (Bor StepRecord × Unit {0}) (Option Instruction)) {f : F} (s : FilterMap (Rev (Iter StepRecord)) F) (rs : List StepRecord) → iter_rest (rev_source (filter_map_source s)) ≡ rs → filter_map_callee s ≡ f
       → ((x : Bor StepRecord) (r : Option Instruction) (q : F) → Called called f (x, tt) r q → (q ≡ f) × (listed r ≡ g (step_of x.now)))
