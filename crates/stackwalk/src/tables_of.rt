@@ -1,7 +1,7 @@
 // Loading a table from bytes or files, and reporting it.
 use crate::refusal::show_refusal;
 use crate::report::show_entries;
-use anyhow::anyhow;
+use anyhow::{Context, anyhow};
 use layout::address::{Address, Rva};
 use std::fs;
 use tables::area::InfoArea;
@@ -15,17 +15,14 @@ fn number(rt: &HostRuntime, text: &str) -> anyhow::Result<u64> {
         Some(digits) => u64::from_str_radix(digits, 16),
         None => text.parse::<u64>(),
     };
-    match read {
-        Ok(n) => Ok(n),
-        Err(_) => Err(anyhow!(format!(in rt.alloc(); "not a number: {text}")?)),
-    }
+    read.ok()
+        .with_context(|| format!(in rt.alloc(); "not a number: {text}"))
 }
 
 fn bytes_of(rt: &HostRuntime, path: &str) -> anyhow::Result<Vec<u8>> {
-    match fs::read(rt, path) {
-        Ok(bytes) => Ok(bytes),
-        Err(_) => Err(anyhow!(format!(in rt.alloc(); "cannot read the file {path}")?)),
-    }
+    let read = fs::read(rt, path);
+    read.ok()
+        .with_context(|| format!(in rt.alloc(); "cannot read the file {path}"))
 }
 
 // Loads the table, and reports its entries with their infos.
