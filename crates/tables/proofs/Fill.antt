@@ -3,7 +3,7 @@ use Rattle.std.proofs.Common.{◌≡◌, ℕ, ◌+◌, ◌<◌, ◌≤◌, List,
 use Rattle.std.proofs.lemmas.List.{drop_more, take_more, set_at, append_assoc, length-drop, length-take-le, take_all}
 
 -- one more element after p, over the rest of es
-put_next : {X : Type 0} (p es : List X) (n : ℕ) (x : X) → length p ≡ n → n < length es →
+pub put_next : {X : Type 0} (p es : List X) (n : ℕ) (x : X) → length p ≡ n → n < length es →
     set (p ++ drop n es) n x ≡ (p ++ x ∷ []) ++ drop (n + 1) es
 put_next p es n x l h = rw (drop_more es n x h, append_assoc) (set_at p (get_or es n x) (drop (n + 1) es) x n l)
 

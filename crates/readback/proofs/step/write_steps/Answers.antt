@@ -4,11 +4,11 @@ use Rattle.std.proofs.lemmas.List.{length-append, append-nil, append_assoc, take
 use Rattle.infos.specs.Codes.{bind}
 use Rattle.infos.specs.Codings.{codes_left}
 use Rattle.infos.specs.Infos.{viewed}
-use Rattle.infos.specs.Refusals.{told as heard}
 use Rattle.infos.specs.Sequences.{gathered}
-use Rattle.infos.proofs.Outcomes.{good_first, good_none, first_slot}
+use Rattle.infos.proofs.Outcomes.{good_none, both_ok, next_ok, next_is, next_slot}
+use Rattle.readback.specs.Refusals.{told}
 use Rattle.readback.specs.Readings.{steps_of_codes, steps_in, codes_in, found}
-use Rattle.readback.proofs.Passes.{codes_start, codes_good, found_is, step_first, put_before, no_steps, no_items, not_ok, ok_same}
+use Rattle.readback.proofs.Passes.{codes_start, codes_good, found_is, step_first, put_before, no_steps, no_items, ok_same}
 use Rattle.readback.proofs.step.write_steps.Goals as goal
 
 pub loop-at-init : goal.loop-at-init
@@ -22,46 +22,32 @@ loop-at-init c =
     let steps = sym (ap (λ r. bind r (steps_of_codes i.frame_register i.frame_offset)) s.2) ∙ found_is (steps_in i) c.requires.readable.1 in
     rw first ((tt, tt), tt, refl, (s.0, found (steps_in i), [], s.1, steps, sym (append-nil (found (steps_in i))), omega arith, sym (take-append-drop c.args.end old)))
 
-pub returns-in_default : goal.returns-in_default
-returns-in_default c =
-    let inv = c.loop-at.invariant.3 in
-    let s = c.in-Some.ensures.steps in
-    let f = good_first inv.0 _ _ (sym inv.3 ∙ s.1) in
-    let e = sym (ap heard c.in_default.is) ∙ f.3 in
-    absurd (cc)
+pub unwrap-requires : goal.unwrap-requires
+unwrap-requires c = next_ok (zip_second c.loop-at.at-iterator) _ _ _ c.loop-at.invariant.3.3 c.in-Some.ensures.steps.1
 
 pub step_of-requires : goal.step_of-requires
 step_of-requires c =
     let it = zip_second c.loop-at.at-iterator in
-    let left = codes_left (zip_second c.next.new.self) in
-    let s = c.in-Some.ensures.steps in
-    let slot : c.in-Ok.code.slot ≡ it.slot = first_slot it c.in-Ok.code left (s.1 ∙ ap (λ r. heard r ∷ left) c.in-Ok.is) in
+    let slot = next_slot it _ _ _ c.loop-at.invariant.3.3 c.in-Some.ensures.steps.1 _ c.unwrap.ensures in
     omega (arith, slot, it.few)
 
-pub returns-in_default-step_of : goal.returns-in_default-step_of
-returns-in_default-step_of c =
+pub unwrap-step-requires : goal.unwrap-step-requires
+unwrap-step-requires c =
     let i = viewed c.args.info.now in
     let inv = c.loop-at.invariant.3 in
-    let s = c.in-Some.ensures.steps in
-    let f = good_first inv.0 _ _ (sym inv.3 ∙ s.1) in
-    let e = sym (ap heard c.in-Ok.is) ∙ f.3 in
-    let same : f.0 ≡ c.in-Ok.code = cc in
-    let codes : inv.0 ≡ c.in-Ok.code ∷ f.1 = f.2 ∙ ap (λ x. x ∷ f.1) same in
-    let w = step_first i.frame_register i.frame_offset c.in-Ok.code f.1 inv.1 (sym (ap (steps_of_codes i.frame_register i.frame_offset) codes) ∙ inv.4) in
-    absurd (not_ok _ w.0 (c.in_default-step_of.ensures ∙ w.2))
+    let f = next_is (zip_second c.loop-at.at-iterator) _ _ _ inv.3 c.in-Some.ensures.steps.1 _ c.unwrap.ensures in
+    let w = step_first i.frame_register i.frame_offset _ _ _ _ f.1 inv.4 in
+    both_ok _ _ _ _ (c.step_of.ensures ∙ w.2)
 
 pub loop-at-preserved : goal.loop-at-preserved
 loop-at-preserved c =
     let i = viewed c.args.info.now in
     let inv = c.loop-at.invariant.3 in
     let s = c.in-Some.ensures.steps in
-    let f = good_first inv.0 _ _ (sym inv.3 ∙ s.1) in
-    let e = sym (ap heard c.in-Ok.is) ∙ f.3 in
-    let same : f.0 ≡ c.in-Ok.code = cc in
-    let codes : inv.0 ≡ c.in-Ok.code ∷ f.1 = f.2 ∙ ap (λ x. x ∷ f.1) same in
-    let w = step_first i.frame_register i.frame_offset c.in-Ok.code f.1 inv.1 (sym (ap (steps_of_codes i.frame_register i.frame_offset) codes) ∙ inv.4) in
-    let step = c.in-Ok-step_of.step in
-    let own : step ≡ w.0 = ok_same step w.0 (c.in-Ok-step_of.ensures ∙ w.2) in
+    let f = next_is (zip_second c.loop-at.at-iterator) _ _ _ inv.3 s.1 _ c.unwrap.ensures in
+    let w = step_first i.frame_register i.frame_offset _ _ _ _ f.1 inv.4 in
+    let step = c.unwrap-step.result in
+    let own : step ≡ w.0 = ok_same step w.0 (ap told (sym c.unwrap-step.ensures) ∙ c.step_of.ensures ∙ w.2) in
     let old = c.args.records.now in
     let above = (rev_source (zip_first c.loop-at.at-iterator)).end in
     let place = (rev_source (zip_first c.next.new.self)).end in
@@ -70,7 +56,7 @@ loop-at-preserved c =
     let all : found (steps_in i) ≡ w.1 ++ (step ∷ inv.2) = inv.5 ∙ ap (λ l. l ++ inv.2) w.4 ∙ append_assoc w.1 (w.0 ∷ []) inv.2 ∙ ap (λ x. w.1 ++ (x ∷ inv.2)) (sym own) in
     let size : place + length (step ∷ inv.2) ≡ c.args.end = omega (arith, inv.6, s.0.1.2) in
     let written = ap (λ k. set c.loop-at.records k step) s.0.1.1 ∙ ap (λ l. set l place step) inv.7 ∙ put in
-    ((tt, tt), tt, s.0.0 ∙ c.loop-at.invariant.2, (f.1, w.1, step ∷ inv.2, f.4, w.3, all, size, written))
+    ((tt, tt), tt, s.0.0 ∙ c.loop-at.invariant.2, (f.0, w.1, step ∷ inv.2, f.2, w.3, all, size, written))
 
 pub returns : goal.returns
 returns c =
