@@ -128,6 +128,7 @@ pub fn write_word<const N: usize, W: Word<N>>(
     ensures after { bytes.new ≡ with_word N bytes.old at (W.value word) }
     ensures back { T (is_ok result) → word_at N bytes.new at ≡ Some (W.value word) }
 {
+    // By a split: after a slice's `get_mut` a proof knows its length, and not its bytes.
     let (_, rest) = bytes.split_at_mut_checked(at).ok_or(PastEnd)?;
     let place = rest.first_chunk_mut().ok_or(PastEnd)?;
     *place = word.le_bytes();
