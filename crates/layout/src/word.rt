@@ -118,7 +118,7 @@ pub fn word_at<const N: usize, W: Word<N>>(bytes: &[u8], at: usize) -> Option<W>
 pub struct PastEnd;
 
 // Puts a word at `at`; where it would pass the end, changes nothing.
-#[tactic(auto, using(crate::proofs::Words::word_back))]
+#[tactic(auto, using(crate::proofs::Words::word_there))]
 pub fn write_word<const N: usize, W: Word<N>>(
     bytes: &mut [u8],
     at: usize,
