@@ -101,12 +101,9 @@ impl<'a> Processor<'a> {
     fn permits(&self, intent: Intent) -> bool
         ensures { result ≡ permitted_in intent (state_of self.now) }
     {
-        // By a match: with `is_none_or` the proof wants a file of its own.
-        let reached = match intent.access {
-            Some(a) => self.area().holds(a.at()),
-            None => true,
-        };
-        reached && self.low <= intent.rsp && intent.rsp - self.low <= self.stack.len() as u64
+        let (low, size) = (self.low, self.stack.len());
+        let reached = intent.access.is_none_or(|a| holds(low, size, a.at()));
+        reached && low <= intent.rsp && intent.rsp - low <= size as u64
     }
 
     fn make_change(&mut self, change: Option<Change>)
