@@ -3,7 +3,7 @@ ghost use Rattle.std.specs.Prelude.{◌≡◌, ◌-◌, true, is_ok, if◌then�
 ghost use Rattle.std.specs.Result.{result_map_both};
 ghost use Rattle.layout.specs.Words.{le_at};
 ghost use Rattle.cpu.specs.Effects.{intended};
-ghost use Rattle.cpu.specs.Performance.{stack_number, holds_word, in_area, area_word, accessible_in, permitted_in, changed, loading, stack_after, performed, with_register};
+ghost use Rattle.cpu.specs.Performance.{stack_number, holds_word, in_area, word_in, accessible_in, permitted_in, changed, loading, stack_after, performed, with_register};
 ghost use Rattle.cpu.specs.Processors.{state_of, in_state, with_registers};
 
 use crate::intent::{Access, Change, Intent, intent_of};
@@ -68,7 +68,7 @@ impl<'a> Area<'a> {
 
     // The word at an address of the area, or none where it does not lie there.
     pub fn word_at(self, at: u64) -> Option<u64>
-        ensures { result ≡ area_word self.entry.low self.entry.bytes.now at }
+        ensures { result ≡ word_in self.entry at }
     {
         if !self.holds(at) {
             return None;
