@@ -12,7 +12,7 @@ use layout::cursor::Cursor;
 fn is_short(d: u32) -> bool
     ensures { result ≡ short d }
 {
-    d < 128 || d >= 0xffff_ff80
+    i8::try_from(d.cast_signed()).is_ok()
 }
 
 fn upper(r: u8) -> u8
