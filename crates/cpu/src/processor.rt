@@ -70,6 +70,7 @@ impl<'a> Area<'a> {
     pub fn word_at(self, at: u64) -> Option<u64>
         ensures { result ≡ word_in self.entry at }
     {
+        // Tried with `then`: the proof did not close, since it knows nothing of what a closure over the area answers.
         if !self.holds(at) {
             return None;
         }

@@ -57,8 +57,8 @@ fn emit_on_rsp(out: &mut Cursor, op: u8, d: u32)
     ensures { out.new ≡ wrote out.old (on_rsp op (not (short d)) d) }
 {
     let wide = !is_short(d);
-    let group = if wide { 0x81 } else { 0x83 };
-    emit_form(out, &[0x48, group, op], wide, d)
+    let opcode = if wide { 0x81 } else { 0x83 };
+    emit_form(out, &[0x48, opcode, op], wide, d)
 }
 
 // store, load or lea at RSP
