@@ -56,7 +56,7 @@ fn check_counts(plan: &Plan<'_>) -> Result<(), PlanRefusal>
     owe(are_all_counted(plan), PlanReason::Counts, counts.len())
 }
 
-// Whether an operation calls.
+// Whether an operation calls, which is kind 3, see OperationRecord.
 fn has_call(operations: &[OperationRecord]) -> bool
     ensures { result ≡ calls operations.now }
 {

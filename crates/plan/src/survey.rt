@@ -79,7 +79,7 @@ pub(crate) fn pushes(steps: &[StepRecord]) -> usize
         .count()
 }
 
-// The size of the block that the steps allocate, 0 where they allocate none.
+// The size of the block that the steps allocate, 0 where they allocate none: the rules give the block that size.
 pub fn block_size(steps: &[StepRecord]) -> u32
     ensures { result ≡ block (map step_of steps.now) }
 {
