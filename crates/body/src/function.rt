@@ -4,7 +4,7 @@ ghost use Rattle.layout.specs.Cursors.{HasRoom, wrote};
 ghost use Rattle.plan.specs.Bodies.{bytes, leave_by, leave, function_bytes, function_size};
 ghost use Rattle.plan.specs.Functions.{function_of};
 ghost use Rattle.plan.specs.Steps.{step_of};
-ghost use Rattle.body.specs.Parts.{listed};
+ghost use Rattle.std.specs.Option.{option_to_list};
 
 use crate::operations::{operations_size, write_operations};
 use crate::part::{loads_size, pops_size, prologue_size, write_loads, write_pops, write_prologue};
@@ -17,7 +17,7 @@ use x64::instruction::Instruction;
 
 // The instruction that moves RSP to the block's end.
 fn leaving(frame: Option<SetFrameStep>, block: u32) -> Option<Instruction>
-    ensures { listed result ≡ leave_by frame block }
+    ensures { option_to_list result ≡ leave_by frame block }
 {
     match frame {
         Some(f) => Some(Instruction::LeaRspAtFrame {
