@@ -1,5 +1,5 @@
 -- The bytes of instructions, by parts.
-use Rattle.std.proofs.Common.{◌≡◌, ℕ, suc, ◌+◌, ◌≤◌, List, [], ◌∷◌, ◌++◌, map, length, reverse, get_or, drop, Some, None, Option, Bor, sym, refl, ap, ◌∙◌, subst, arith}
+use Rattle.std.proofs.Common.{◌≡◌, ℕ, suc, ◌+◌, ◌*◌, ◌≤◌, List, [], ◌∷◌, ◌++◌, map, length, reverse, get_or, drop, Some, None, Option, Bor, sym, refl, ap, ◌∙◌, subst, arith}
 use Rattle.std.specs.Iterator.{AlwaysYields, Yields}
 use Rattle.std.specs.Iterator.Adapters.{map_source, map_callee, filter_map_source, filter_map_callee, filter_map_steps, rev_source, rev_steps}
 use Rattle.std.specs.List.{filter_map, cons_option, sum_by}
@@ -9,13 +9,14 @@ use Rattle.std.proofs.Math.Seq.{split_at}
 use Rattle.std.proofs.lemmas.Iterator.{YieldsList, YieldsList-from_slice, YieldsList-from_map, maps}
 use Rattle.std.proofs.lemmas.Iterator.Adapters.{YieldsList-from_rev_slice}
 use Rattle.std.proofs.lemmas.Iterator.Consumers.{YieldsList-from_filter_map, YieldsList-so_far, YieldsList-turn, YieldsList-end}
-use Rattle.std.proofs.lemmas.List.{append_assoc, append-nil, length-append, map-append, map-id, reverse-append}
+use Rattle.std.proofs.lemmas.List.{append_assoc, append-nil, length-append, length-map, map-append, map-id, reverse-append}
 use Rattle.std.proofs.lemmas.List.Sums.{sum_by-cons}
 use Rattle.layout.specs.declared.cursor.Cursor.{Cursor}
 use Rattle.layout.specs.Cursors.{HasRoom, wrote}
 use Rattle.layout.proofs.Cursors.{room-first, room-rest, wrote-append}
 use Rattle.x64.specs.Encodings.{encode}
 use Rattle.x64.specs.declared.instruction.Instruction.{Instruction}
+use Rattle.plan.proofs.Sizes.{bytes-short}
 use Rattle.plan.specs.Bodies.{bytes, forward, backward, enter, entering, loading, popping}
 use Rattle.plan.specs.Steps.{step_of, step_instruction}
 use Rattle.plan.specs.declared.step.Step.{Step}
@@ -70,10 +71,18 @@ same_length g (s ∷ ss) =
     ∙ omega (arith, ap length (bytes-append (g s) (forward g ss)), length-append (bytes (g s)) (bytes (forward g ss)))
 
 -- with one instruction at most for each step, there are no more than steps
-pub forward-count : (g : Step → List Instruction) → ((s : Step) → length (g s) ≤ 1) → (ss : List Step) → length (forward g ss) ≤ length ss
+forward-count : (g : Step → List Instruction) → ((s : Step) → length (g s) ≤ 1) → (ss : List Step) → length (forward g ss) ≤ length ss
 unfolding forward
 forward-count g h [] = omega arith
 forward-count g h (s ∷ ss) = omega (arith, length-append (g s) (forward g ss), h s, forward-count g h ss)
+
+-- a part of one instruction at most for each step: no more of them than records, with 8 bytes at most for each
+module _ (g : Step → List Instruction) (h : (s : Step) → length (g s) ≤ 1) (rs : List StepRecord) where
+  pub part_few : length (forward g (map step_of rs)) ≤ length rs
+  part_few = omega (arith, forward-count g h (map step_of rs), length-map rs step_of)
+
+  pub part_short : length (bytes (forward g (map step_of rs))) ≤ 8 * length rs
+  part_short = omega (arith, bytes-short (forward g (map step_of rs)), part_few)
 
 -- last to first is first to last of the reverse
 backward_reversed : (g : Step → List Instruction) (rs : List StepRecord) → backward g (map step_of rs) ≡ forward g (map step_of (reverse rs))
