@@ -8,6 +8,7 @@ use tables::area::InfoArea;
 use tables::entry::Entry;
 use tables::load::load_table;
 use tables::module::Extent;
+use tables::refusal::TableRefusal;
 
 // A number in decimal, or in hexadecimal after `0x`.
 fn number(rt: &HostRuntime, text: &str) -> anyhow::Result<u64> {
@@ -15,33 +16,51 @@ fn number(rt: &HostRuntime, text: &str) -> anyhow::Result<u64> {
         Some(digits) => u64::from_str_radix(digits, 16),
         None => text.parse::<u64>(),
     };
-    match read {
-        Ok(n) => Ok(n),
-        Err(_) => Err(anyhow!(format!(in rt.alloc(); "not a number: {text}")?)),
-    }
+    // No `map_err`: the words are made on the heap, which may fail.
+    let Ok(n) = read else {
+        return Err(anyhow!(format!(in rt.alloc(); "not a number: {text}")?));
+    };
+    Ok(n)
 }
 
 fn bytes_of(rt: &HostRuntime, path: &str) -> anyhow::Result<Vec<u8>> {
-    match fs::read(rt, path) {
-        Ok(bytes) => Ok(bytes),
-        Err(_) => Err(anyhow!(format!(in rt.alloc(); "cannot read the file {path}")?)),
-    }
+    let Ok(bytes) = fs::read(rt, path) else {
+        return Err(anyhow!(format!(in rt.alloc(); "cannot read the file {path}")?));
+    };
+    Ok(bytes)
 }
 
-// Loads the table, and reports its entries with their infos.
-pub fn show_table(rt: &HostRuntime, table: &[u8], area: InfoArea, size: u64) -> anyhow::Result<()> {
+// The text of a file.
+pub fn text_of(rt: &HostRuntime, path: &str) -> anyhow::Result<String> {
+    let Ok(text) = fs::read_to_string(rt, path) else {
+        return Err(anyhow!(format!(in rt.alloc(); "cannot read the file {path} as text")?));
+    };
+    Ok(text)
+}
+
+// The entries of a table.
+pub fn entries_of(
+    rt: &HostRuntime,
+    table: &[u8],
+    extent: Extent,
+) -> anyhow::Result<Result<Vec<Entry>, TableRefusal>> {
     let none = Entry {
         begin: Rva(0),
         end: Rva(0),
         info: Rva(0),
     };
     let mut records = vec![in rt.alloc(); none; table.len() / 12]?;
+    Ok(load_table(table, extent, records.as_mut_slice()).map(|_| records))
+}
+
+// Loads the table, and reports its entries with their infos.
+pub fn show_table(rt: &HostRuntime, table: &[u8], area: InfoArea, size: u64) -> anyhow::Result<()> {
     let extent = Extent {
         base: Address(0),
         size,
     };
-    match load_table(table, extent, records.as_mut_slice()) {
-        Ok(_) => Ok(show_entries(rt, records.as_slice(), area)?),
+    match entries_of(rt, table, extent)? {
+        Ok(entries) => Ok(show_entries(rt, entries.as_slice(), area)?),
         Err(e) => Ok(show_refusal(rt, "table", &e)?),
     }
 }
