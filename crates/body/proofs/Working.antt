@@ -1,15 +1,15 @@
 -- The operations of a body, and a function by its parts.
-use Rattle.std.proofs.Common.{◌≡◌, ℕ, ◌+◌, ◌^◌, ◌<◌, ◌≤◌, List, [], ◌∷◌, ◌++◌, map, length, get_or, drop, Option, sym, refl, ap, ◌∙◌, arith}
+use Rattle.std.proofs.Common.{◌≡◌, ℕ, ◌+◌, ◌-◌, ◌^◌, ◌<◌, ◌≤◌, List, [], ◌∷◌, ◌++◌, map, length, get_or, drop, Option, sym, refl, ap, ◌∙◌, arith}
 use Rattle.std.specs.List.{sum_by}
 use Rattle.std.proofs.lemmas.List.Sums.{sum_by-cons}
 use Rattle.std.proofs.lemmas.List.{length-append, at_drop_more, at_drop_all}
-use Rattle.layout.specs.Cursors.{HasRoom}
+use Rattle.layout.specs.Cursors.{HasRoom, wrote}
 use Rattle.layout.specs.declared.cursor.Cursor.{Cursor}
-use Rattle.layout.proofs.Cursors.{Rest, begin, recast}
+use Rattle.layout.proofs.Cursors.{Rest, begin, recast, room, step}
 use Rattle.x64.specs.Encodings.{encode}
 use Rattle.x64.specs.declared.instruction.Instruction.{Instruction}
 use Rattle.x64.specs.declared.instruction.Instruction.TheVariants.{Ret}
-use Rattle.plan.specs.Bodies.{bytes, forward, backward, enter, operation_instruction, work, loading, leave_by, popping, leave, steps_of, function_bytes, function_size}
+use Rattle.plan.specs.Bodies.{bytes, backward, enter, operation_instruction, work, loading, leave_by, popping, leave, steps_of, function_bytes, function_size}
 use Rattle.plan.specs.Functions.{Function}
 use Rattle.plan.specs.Operations.{operation_of}
 use Rattle.plan.specs.Steps.{block, frame}
@@ -18,7 +18,7 @@ use Rattle.plan.specs.declared.step.Step.{Step}
 use Rattle.plan.specs.declared.text.OperationRecord.{OperationRecord}
 use Rattle.steps.specs.declared.set_frame.SetFrameStep.{SetFrameStep}
 use Rattle.plan.proofs.Sizes.{same_operation, few_bytes}
-use Rattle.body.proofs.Bytes.{bytes-append, same_length, one}
+use Rattle.body.proofs.Bytes.{bytes-append, one}
 
 -- how many bytes an operation has, wherever it stands
 abbrev pub own_size : OperationRecord → ℕ
@@ -70,7 +70,7 @@ function_parts st at f =
     let worked = work st (at + length (bytes entered)) (map operation_of f.operations) in
     bytes-append entered (worked ++ leave (steps_of f)) ∙ ap (λ l. bytes entered ++ l) (bytes-append worked (leave (steps_of f)))
 
-leave_sized : (ss : List Step) → length (bytes (leave ss)) ≡ length (bytes (forward (loading (frame ss)) ss)) + length (bytes (leave_by (frame ss) (block ss))) + length (bytes (forward popping ss)) + 1
+leave_sized : (ss : List Step) → length (bytes (leave ss)) ≡ length (bytes (backward (loading (frame ss)) ss)) + length (bytes (leave_by (frame ss) (block ss))) + length (bytes (backward popping ss)) + 1
 leave_sized ss =
     let loads = bytes (backward (loading (frame ss)) ss) in
     let middle = bytes (leave_by (frame ss) (block ss)) in
@@ -79,9 +79,7 @@ leave_sized ss =
     let b = length-append loads (middle ++ (pops ++ encode Ret)) in
     let c = length-append middle (pops ++ encode Ret) in
     let d = length-append pops (encode Ret) in
-    let e = same_length (loading (frame ss)) ss in
-    let f = same_length popping ss in
-    omega (arith, a, b, c, d, e, f)
+    omega (arith, a, b, c, d)
 
 -- the size by parts, the same wherever the function stands
 pub function_sized : (st : List ℕ) (at : ℕ) (f : Function) → length (function_bytes st at f)
@@ -96,21 +94,13 @@ function_sized st at f =
     omega (arith, a, b, c, d)
 
 pub size_by_parts : (f : Function) → function_size f
-    ≡ length (bytes (enter (steps_of f))) + length (bytes (work [] 0 (map operation_of f.operations))) + length (bytes (forward (loading (frame (steps_of f))) (steps_of f)))
-    + length (bytes (leave_by (frame (steps_of f)) (block (steps_of f)))) + length (bytes (forward popping (steps_of f))) + 1
+    ≡ length (bytes (enter (steps_of f))) + length (bytes (work [] 0 (map operation_of f.operations))) + length (bytes (backward (loading (frame (steps_of f))) (steps_of f)))
+    + length (bytes (leave_by (frame (steps_of f)) (block (steps_of f)))) + length (bytes (backward popping (steps_of f))) + 1
 size_by_parts f =
     let a = function_sized [] 0 f in
     let b = leave_sized (steps_of f) in
     let c = work_sized [] 0 f.operations in
     omega (arith, a, b, c)
-
--- the operations end where the loads begin, inside the function
-pub body_inside : (st : List ℕ) (rva body : ℕ) (f : Function) → body ≡ rva + length (bytes (enter (steps_of f))) → rva + length (function_bytes st rva f) + 5 < 2 ^ 32 →
-    body + length (bytes (work st body (map operation_of f.operations))) + 5 < 2 ^ 32
-body_inside st rva body f e h =
-    let a = function_sized st rva f in
-    let b = work_sized st body f.operations in
-    omega (arith, a, b, e, h)
 
 pub operations_few : (rs : List OperationRecord) → length rs ≤ 255 → sum_by own_size rs ≤ 2300
 operations_few rs h =
@@ -127,8 +117,26 @@ leave_begin c ss h fr e size b =
     ∙ ap (λ f. bytes (backward (loading f) ss) ++ (bytes (leave_by f (block ss)) ++ tail)) (sym e)
     ∙ ap (λ n. bytes (backward (loading fr) ss) ++ (bytes (leave_by fr n) ++ tail)) (sym b))
 
-pub function_begin : (c : Cursor) (st : List ℕ) (rva : ℕ) (f : Function) → HasRoom c (function_bytes st rva f) → (body : ℕ) → body ≡ rva + length (bytes (enter (steps_of f))) →
-    Rest c (function_bytes st rva f) c (bytes (enter (steps_of f)) ++ (bytes (work st body (map operation_of f.operations)) ++ bytes (leave (steps_of f))))
-function_begin c st rva f h body e =
-    recast (begin c (function_bytes st rva f) h)
-    (function_parts st rva f ∙ ap (λ p. bytes (enter (steps_of f)) ++ (bytes (work st p (map operation_of f.operations)) ++ bytes (leave (steps_of f)))) (sym e))
+-- a function in the form in which it is written, and how far: the operations stand behind the prologue
+module _ (c : Cursor) (st : List ℕ) (rva : ℕ) (f : Function) (h : HasRoom c (function_bytes st rva f)) where
+  function_begin : Rest c (function_bytes st rva f) c (bytes (enter (steps_of f)) ++ (bytes (work st (rva + length (bytes (enter (steps_of f)))) (map operation_of f.operations)) ++ bytes (leave (steps_of f))))
+  function_begin = recast (begin c (function_bytes st rva f) h) (function_parts st rva f)
+
+  pub enter_room : HasRoom c (bytes (enter (steps_of f)))
+  enter_room = room _ _ function_begin
+
+  module _ (d : Cursor) (e : d ≡ wrote c (bytes (enter (steps_of f)))) where
+    abbrev body : ℕ
+    body = rva + (d.at - c.at)
+
+    entered : body ≡ rva + length (bytes (enter (steps_of f)))
+    entered = omega (arith, ap (λ k. k.at) e)
+
+    pub function_next : Rest c (function_bytes st rva f) d (bytes (work st body (map operation_of f.operations)) ++ bytes (leave (steps_of f)))
+    function_next =
+        recast (step (bytes (enter (steps_of f))) _ function_begin d e)
+        (ap (λ p. bytes (work st p (map operation_of f.operations)) ++ bytes (leave (steps_of f))) (sym entered))
+
+    -- the operations end where the loads begin, inside the function
+    pub body_inside : rva + length (function_bytes st rva f) + 5 < 2 ^ 32 → body + length (bytes (work st body (map operation_of f.operations))) + 5 < 2 ^ 32
+    body_inside low = omega (arith, function_sized st rva f, work_sized st body f.operations, entered, low)

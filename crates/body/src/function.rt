@@ -1,13 +1,13 @@
 // A whole function: prologue, operations, loads of the saves, epilogue.
-ghost use Rattle.std.specs.Prelude.{◌≡◌, ℕ, ◌+◌, ◌*◌, ◌^◌, ◌<◌, ◌≤◌, [], ◌∷◌, ◌++◌, map, length};
+ghost use Rattle.std.specs.Prelude.{◌≡◌, ◌+◌, ◌^◌, ◌<◌, ◌≤◌, map, length};
 ghost use Rattle.layout.specs.Cursors.{HasRoom, wrote};
-ghost use Rattle.plan.specs.Bodies.{bytes, less, leave_by, leave, function_bytes, function_size};
+ghost use Rattle.plan.specs.Bodies.{bytes, leave_by, leave, function_bytes, function_size};
 ghost use Rattle.plan.specs.Functions.{function_of};
 ghost use Rattle.plan.specs.Steps.{step_of};
 ghost use Rattle.body.specs.Parts.{listed};
 
 use crate::operations::{operations_size, write_operations};
-use crate::part::{load, part_size, pop, prologue_size, write_backward, write_prologue};
+use crate::part::{loads_size, pops_size, prologue_size, write_loads, write_pops, write_prologue};
 use layout::cursor::Cursor;
 use plan::survey::{block_size, frame_register};
 use plan::text::{Function, StepRecord};
@@ -56,9 +56,9 @@ fn write_leave(steps: &[StepRecord], out: &mut Cursor)
     ensures { out.new ≡ wrote out.old (bytes (leave (map step_of steps.now))) }
 {
     let frame = frame_register(steps);
-    write_backward(steps, |s| load(frame, s), out);
+    write_loads(frame, steps, out);
     write_leaving(frame, block_size(steps), out);
-    write_backward(steps, pop, out);
+    write_pops(steps, out);
     emit(out, Instruction::Ret);
 }
 
@@ -71,9 +71,10 @@ pub fn function_size(f: Function<'_>) -> usize
     let frame = frame_register(f.steps);
     let entering = prologue_size(f.steps);
     let working = operations_size(f.operations);
-    let loading = part_size(f.steps, |s| load(frame, s));
+    let loading = loads_size(frame, f.steps);
     let leaving = leaving_size(frame, block_size(f.steps));
-    entering + working + loading + leaving + part_size(f.steps, pop) + 1
+    let popping = pops_size(f.steps);
+    entering + working + loading + leaving + popping + 1
 }
 
 // Writes a function that starts at an RVA.

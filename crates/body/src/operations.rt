@@ -1,5 +1,5 @@
 // The instructions of a function's operations.
-ghost use Rattle.std.specs.Prelude.{◌≡◌, ℕ, ◌+◌, ◌*◌, ◌^◌, ◌<◌, ◌≤◌, [], map, length, slice_index};
+ghost use Rattle.std.specs.Prelude.{◌≡◌, ◌+◌, ◌^◌, ◌<◌, ◌≤◌, [], map, length, slice_index};
 ghost use Rattle.layout.specs.Cursors.{HasRoom, wrote};
 ghost use Rattle.plan.specs.Bodies.{bytes, operation_instruction, work};
 ghost use Rattle.plan.specs.Operations.{operation_of};
@@ -10,7 +10,8 @@ use plan::text::OperationRecord;
 use x64::encode::{emit, encoded_length};
 use x64::instruction::Instruction;
 
-// Where a function starts, 0 where there is none.
+// Where a function starts, 0 where there is none, as the definition has it: sizes are counted with no starts at all, and in
+// what is written it does not come up, since a plan is checked before.
 fn start_of(starts: &[u32], function: u8) -> u32
     ensures { result ≡ slice_index starts.now function }
 {
@@ -43,7 +44,8 @@ pub(crate) fn operations_size(operations: &[OperationRecord]) -> usize
         .sum()
 }
 
-// Writes the operations, from an RVA on.
+// Writes the operations, from an RVA on. By a loop: each instruction is made from the place at which it will stand, and in a
+// chain the closure would carry that place, with a bound on it owed at each of its calls.
 pub(crate) fn write_operations(
     operations: &[OperationRecord],
     starts: &[u32],

@@ -1,13 +1,14 @@
 -- The codes of steps, step by step.
-use Rattle.std.proofs.Common.{◌≡◌, ℕ, zero, suc, ◌+◌, ◌-◌, ◌/◌, ◌<◌, ◌≤◌, Bool, true, false, cond, leb, List, [], ◌∷◌, ◌++◌, map, length, reverse, get_or, take, sym, refl, ap, ◌∙◌, arith}
+use Rattle.std.proofs.Common.{◌≡◌, ℕ, ◌+◌, ◌-◌, ◌/◌, ◌<◌, ◌≤◌, Bool, true, false, cond, leb, List, [], ◌∷◌, ◌++◌, map, length, Option, sym, refl, ap, ◌∙◌, subst, arith}
 use Rattle.std.specs.List.{sum_by}
-use Rattle.std.proofs.lemmas.List.{length-append, append_assoc, append-nil, take_more, map-append, length-reverse, get_or-reverse}
+use Rattle.std.proofs.lemmas.List.{length-append, append_assoc, append-nil, map-append}
 use Rattle.std.proofs.lemmas.List.Sums.{sum_by-cons}
 use Rattle.layout.specs.Cursors.{HasRoom, wrote}
 use Rattle.layout.specs.declared.cursor.Cursor.{Cursor}
-use Rattle.layout.proofs.Cursors.{Rest, begin, recast, room, step}
+use Rattle.layout.proofs.Cursors.{Rest, begin, recast, room, step, finish}
 use Rattle.x64.specs.Encodings.{encode, four}
 use Rattle.steps.specs.Kinds.{two}
+use Rattle.steps.specs.declared.set_frame.SetFrameStep.{SetFrameStep}
 use Rattle.plan.specs.Bodies.{bytes, forward, enter, entering}
 use Rattle.plan.specs.Steps.{AllSound, step_of, step_instruction, step_code, frame, Sound}
 use Rattle.plan.specs.UnwindInfos.{codes, frame_byte, pad, info_bytes}
@@ -75,41 +76,53 @@ codes_push from (x ∷ ss) s =
     ∙ append_assoc (step_code (end + length (bytes (enter ss)) + length (encode (step_instruction s))) s) (codes end ss) (step_code end x)
     ∙ ap (λ e. step_code e s ++ (codes end ss ++ step_code end x)) place
 
--- the last of the first i steps
-module _ (rs : List StepRecord) (i : ℕ) (d : StepRecord) (h : i ≤ length rs) (p : 0 < i) (s : Step) (e : s ≡ step_of (get_or rs (i - 1) d)) where
-  front : map step_of (take i rs) ≡ map step_of (take (i - 1) rs) ++ s ∷ []
-  front =
-      let back : i ≡ i - 1 + 1 = omega arith in
-      ap (λ k. map step_of (take k rs)) back ∙ ap (map step_of) (take_more rs (i - 1) d (omega arith)) ∙ map-append step_of (take (i - 1) rs) (get_or rs (i - 1) d ∷ [])
-      ∙ ap (λ x. map step_of (take (i - 1) rs) ++ x ∷ []) (sym e)
+sound_push : (ss : List Step) (s : Step) → AllSound (ss ++ s ∷ []) → AllSound ss × Sound s
+sound_push [] s a = (tt, a.0)
+sound_push (x ∷ ss) s a = let p = sound_push ss s a.1 in ((a.0, p.0), p.1)
 
-  pub offset_last : length (bytes (enter (map step_of (take i rs)))) ≡ length (bytes (enter (map step_of (take (i - 1) rs)))) + length (encode (step_instruction s))
-  offset_last = ap (λ l. length (bytes (enter l))) front ∙ enter_push (map step_of (take (i - 1) rs)) s
+-- what is left to write, where the codes of these steps are left, last to first
+pub record Coded (c₀ : Cursor) (whole : List ℕ) (c : Cursor) (end : ℕ) (left : List StepRecord) : Type 0 where
+  pub sound : AllSound (map step_of left)
+  pub rest : Rest c₀ whole c (codes 0 (map step_of left))
+  pub place : end ≡ length (bytes (enter (map step_of left)))
+  pub low : end < 256
 
-  pub codes_last : (offset : ℕ) → offset ≡ length (bytes (enter (map step_of (take i rs)))) → codes 0 (map step_of (take i rs)) ≡ step_code offset s ++ codes 0 (map step_of (take (i - 1) rs))
-  codes_last offset o =
-      let before = map step_of (take (i - 1) rs) in
-      let place : 0 + length (bytes (enter before)) + length (encode (step_instruction s)) ≡ offset = omega (arith, o, offset_last) in
-      ap (codes 0) front ∙ codes_push 0 before s ∙ ap (λ k. step_code k s ++ codes 0 before) place
+pub coded_none : (c : Cursor) (rs : List StepRecord) → HasRoom c (codes 0 (map step_of rs)) → AllSound (map step_of rs) → (end : ℕ) → end ≡ length (bytes (enter (map step_of rs))) → end < 256
+    → Coded c (codes 0 (map step_of rs)) c end rs
+coded_none c rs h a end e low = record { sound = a; rest = begin c (codes 0 (map step_of rs)) h; place = e; low = low }
 
-pub codes_none : (rs : List StepRecord) (i : ℕ) → i ≤ 0 → codes 0 (map step_of (take i rs)) ≡ []
+-- the next step from the back
+module _ {c₀ : Cursor} {whole : List ℕ} {c : Cursor} {end : ℕ} {left : List StepRecord} (w : Coded c₀ whole c end left) (later : List StepRecord) (r : StepRecord) (cons : left ≡ later ++ r ∷ []) (s : Step) (e : s ≡ step_of r) where
+  steps_are : map step_of left ≡ map step_of later ++ s ∷ []
+  steps_are = ap (map step_of) cons ∙ map-append step_of later (r ∷ []) ∙ ap (λ x. map step_of later ++ x ∷ []) (sym e)
+
+  sounds : AllSound (map step_of later) × Sound s
+  sounds = sound_push (map step_of later) s (subst AllSound steps_are w.sound)
+
+  pub next_sound : Sound s
+  next_sound = sounds.1
+
+  ends : end ≡ length (bytes (enter (map step_of later))) + length (encode (step_instruction s))
+  ends = w.place ∙ ap (λ l. length (bytes (enter l))) steps_are ∙ enter_push (map step_of later) s
+
+  pub next_fits : length (encode (step_instruction s)) ≤ end
+  next_fits = omega (arith, ends)
+
+  code-next : Rest c₀ whole c (step_code end s ++ codes 0 (map step_of later))
+  code-next =
+      let place : 0 + length (bytes (enter (map step_of later))) + length (encode (step_instruction s)) ≡ end = omega (arith, ends) in
+      recast w.rest (ap (codes 0) steps_are ∙ codes_push 0 (map step_of later) s ∙ ap (λ k. step_code k s ++ codes 0 (map step_of later)) place)
+
+  pub next_room : HasRoom c (step_code end s)
+  next_room = room _ _ code-next
+
+  pub coded_on : (d : Cursor) → d ≡ wrote c (step_code end s) → (n : ℕ) → n ≡ length (encode (step_instruction s)) → Coded c₀ whole d (end - n) later
+  coded_on d q n h = record { sound = sounds.0; rest = step _ _ code-next d q; place = omega (arith, ends, h); low = omega (arith, w.low) }
+
+pub coded_all : {c₀ : Cursor} {whole : List ℕ} {c : Cursor} {end : ℕ} (left : List StepRecord) → Coded c₀ whole c end left → length left ≡ 0 → c ≡ wrote c₀ whole
 unfolding codes
-codes_none rs i h =
-    let none_left : i ≡ 0 = omega arith in
-    ap (λ k. codes 0 (map step_of (take k rs))) none_left
-
--- the step that comes after k others from the back
-pub turn_back : (rs : List StepRecord) (k : ℕ) (r : StepRecord) → (k < length (reverse rs)) × (r ≡ get_or (reverse rs) k r) → (0 < length rs - k) × (r ≡ get_or rs (length rs - k - 1) r)
-turn_back rs k r t =
-    let h : k < length rs = omega (arith, t.0, length-reverse rs) in
-    let same : length rs - 1 - k ≡ length rs - k - 1 = omega arith in
-    (omega (arith, h), t.1 ∙ get_or-reverse rs k r h ∙ ap (λ j. get_or rs j r) same)
-
--- a step among sound ones is sound
-pub sound_at : (rs : List StepRecord) (i : ℕ) (d : StepRecord) → i < length rs → AllSound (map step_of rs) → Sound (step_of (get_or rs i d))
-sound_at [] i d h a = absurd (omega (arith, h))
-sound_at (r ∷ rs) zero d h a = a.0
-sound_at (r ∷ rs) (suc i) d h a = sound_at rs i d (omega arith) a.1
+coded_all [] w none = finish w.rest
+coded_all (r ∷ left) w none = absurd (omega (arith, none))
 
 -- the frame register and its offset make a byte
 pub frame-fits : (ss : List Step) → AllSound ss → frame_byte (frame ss) < 256
@@ -121,7 +134,8 @@ frame-fits (SetFrame k ∷ ss) a = omega (arith, a.0.1, a.0.2)
 frame-fits (Save k ∷ ss) a = frame-fits ss a.1
 
 -- an info in the form in which it is written: a header first
-module _ (c : Cursor) (ss : List Step) (h : HasRoom c (info_bytes ss)) (prologue size byte : ℕ) (p : prologue ≡ length (bytes (enter ss))) (n : size ≡ length (codes 0 ss)) (f : byte ≡ frame_byte (frame ss)) where
+module _ (c : Cursor) (ss : List Step) (h : HasRoom c (info_bytes ss)) (prologue size : ℕ) (p : prologue ≡ length (bytes (enter ss))) (n : size ≡ length (codes 0 ss))
+    (fr : Option SetFrameStep) (e : fr ≡ frame ss) (byte : ℕ) (f : byte ≡ frame_byte fr) where
   abbrev header : List ℕ
   header = 1 ∷ prologue ∷ size / 2 ∷ byte ∷ []
 
@@ -130,13 +144,13 @@ module _ (c : Cursor) (ss : List Step) (h : HasRoom c (info_bytes ss)) (prologue
       recast (begin c (info_bytes ss) h)
       (ap (λ k. (1 ∷ k ∷ length (codes 0 ss) / 2 ∷ frame_byte (frame ss) ∷ []) ++ (codes 0 ss ++ pad (length (codes 0 ss)))) (sym p)
       ∙ ap (λ k. (1 ∷ prologue ∷ k / 2 ∷ frame_byte (frame ss) ∷ []) ++ (codes 0 ss ++ pad k)) (sym n)
-      ∙ ap (λ k. (1 ∷ prologue ∷ size / 2 ∷ k ∷ []) ++ (codes 0 ss ++ pad size)) (sym f))
+      ∙ ap (λ k. (1 ∷ prologue ∷ size / 2 ∷ k ∷ []) ++ (codes 0 ss ++ pad size)) (sym (f ∙ ap frame_byte e)))
 
   pub header_room : HasRoom c header
   header_room = room header (codes 0 ss ++ pad size) in_parts
 
   pub headed : (d : Cursor) → d ≡ wrote c header → Rest c (info_bytes ss) d (codes 0 ss ++ pad size)
-  headed d e = step header (codes 0 ss ++ pad size) in_parts d e
+  headed d q = step header (codes 0 ss ++ pad size) in_parts d q
 
 pub info_length : (ss : List Step) (size : ℕ) → size ≡ length (codes 0 ss) → length (info_bytes ss) ≡ 4 + size + length (pad size)
 info_length ss size n =

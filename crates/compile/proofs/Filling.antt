@@ -1,9 +1,12 @@
 -- A module written function by function.
-use Rattle.std.proofs.Common.{◌≡◌, ℕ, ◌+◌, ◌-◌, ◌*◌, ◌^◌, ◌<◌, ◌≤◌, false, List, [], ◌∷◌, ◌++◌, length, replicate, sym, ap, ◌∙◌, subst, arith}
+use Rattle.std.proofs.Common.{◌≡◌, ℕ, ◌+◌, ◌-◌, ◌*◌, ◌^◌, ◌<◌, ◌≤◌, false, List, [], ◌∷◌, ◌++◌, length, replicate, sym, refl, ap, ◌∙◌, subst, arith}
 use lib.ListN.{length-replicate}
+use native.Mathlib.Nat.{div-div-eq-div-mul}
 use Rattle.layout.specs.Cursors.{HasRoom, wrote}
+use Rattle.layout.specs.Words.{le_bytes}
 use Rattle.layout.specs.declared.cursor.Cursor.{Cursor}
 use Rattle.layout.proofs.Cursors.{Rest, begin as rest-begin, recast, room, step, finish}
+use Rattle.x64.specs.Encodings.{four}
 use Rattle.plan.specs.Bodies.{steps_of, function_bytes, function_size}
 use Rattle.plan.specs.Functions.{Text, Function, functions_of}
 use Rattle.plan.specs.Layouts.{up, code, code_from, infos, entry, table, table_from, info_start}
@@ -15,6 +18,15 @@ use Rattle.plan.proofs.Sizes.{same_size, few_bytes}
 use Rattle.compile.specs.Writables.{Writable}
 use Rattle.compile.proofs.Bounds.{info_at_most}
 use Rattle.compile.proofs.Laying.{up_fits, code-cons, infos-cons, table-cons, nothing_left}
+
+spelled : (n : ℕ) → le_bytes 4 n ≡ four n
+unfolding le_bytes
+spelled n = simp div-div-eq-div-mul
+
+-- an entry in three pieces
+pub entry_written : (c : Cursor) (begin end info : ℕ) → HasRoom c (entry begin end info) → wrote (wrote (wrote c (le_bytes 4 begin)) (le_bytes 4 end)) (le_bytes 4 info) ≡ wrote c (entry begin end info)
+entry_written c begin end info h = rw (spelled begin, spelled end, spelled info)
+    (step (four end) (four info) (step (four begin) (four end ++ four info) (rest-begin c (entry begin end info) h) _ refl) _ refl).same
 
 -- what is left to write of each part, where these functions are left
 pub record Written (fs : List Function) (st : List ℕ) (rva : ℕ) (c₀ i₀ t₀ c i t : Cursor) (left : List Function) : Type 0 where

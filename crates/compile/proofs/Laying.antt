@@ -6,7 +6,7 @@ use Rattle.plan.specs.Bodies.{steps_of, function_bytes, function_size}
 use Rattle.plan.specs.Functions.{Function}
 use Rattle.plan.specs.Layouts.{up, starts, starts_from, code, gap, code_from, infos, entry, table_from}
 use Rattle.plan.specs.UnwindInfos.{info_bytes}
-use Rattle.plan.proofs.Accepted.{Good, Goods}
+use Rattle.plan.proofs.Accepted.{Goods}
 use Rattle.plan.proofs.Sizes.{same_size}
 
 -- the multiple of 16 lies less than 16 up
@@ -71,10 +71,7 @@ measured_none fs xs g most r = record { good = g; room = r; count = omega arith;
 
 -- the next function
 module _ {fs : List Function} {xs : List ℕ} {k at n : ℕ} {left : List Function} (r : Measured fs xs k at n left) (f : Function) (later : List Function) (cons : left ≡ f ∷ later) where
-  pub next_good : Good f
-  next_good = (subst Goods cons r.good).0
-
-  pub one_more : k + 1 + length later ≡ length fs
+  one_more : k + 1 + length later ≡ length fs
   one_more = omega (arith, r.count, ap length cons)
 
   pub measured_on : (begin size bytes : ℕ) → begin ≡ up 16 at → size ≡ function_size f → size ≤ 2300 → bytes ≡ length (info_bytes (steps_of f)) → bytes ≤ 66

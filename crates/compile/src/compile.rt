@@ -1,5 +1,5 @@
 // The compiler.
-ghost use Rattle.std.specs.Prelude.{◌≡◌, ℕ, length, is_ok, if◌then◌else◌};
+ghost use Rattle.std.specs.Prelude.{◌≡◌, length, is_ok, if◌then◌else◌};
 ghost use Rattle.layout.specs.Words.{overwritten};
 ghost use Rattle.plan.specs.Functions.{text_of, functions_of};
 ghost use Rattle.plan.specs.Layouts.{code as code_of, infos as infos_of, table as table_of};

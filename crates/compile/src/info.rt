@@ -1,5 +1,5 @@
 // The unwind info of a function: how many bytes it has, and writing it.
-ghost use Rattle.std.specs.Prelude.{◌≡◌, ℕ, ◌+◌, ◌*◌, ◌/◌, ◌<◌, ◌≤◌, map, length};
+ghost use Rattle.std.specs.Prelude.{◌≡◌, ℕ, ◌<◌, ◌≤◌, map, length};
 ghost use Rattle.layout.specs.Cursors.{HasRoom, wrote};
 ghost use Rattle.plan.specs.Bodies.{bytes, enter};
 ghost use Rattle.plan.specs.Steps.{AllSound, step_of, step_code, frame};

@@ -1,5 +1,5 @@
 // Where the functions of a module start, and how long its code and infos are.
-ghost use Rattle.std.specs.Prelude.{◌≡◌, ℕ, ◌+◌, ◌*◌, ◌^◌, ◌<◌, ◌≤◌, map, length, take, Ok};
+ghost use Rattle.std.specs.Prelude.{◌≡◌, ◌+◌, ◌^◌, ◌<◌, ◌≤◌, length, take, Ok};
 ghost use Rattle.plan.specs.Functions.{text_of, functions_of};
 ghost use Rattle.plan.specs.Layouts.{up, starts, code, infos};
 ghost use Rattle.plan.specs.Verdicts.{plan_verdict};

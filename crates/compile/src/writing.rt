@@ -1,5 +1,5 @@
 // Writing a whole module: code, infos and table.
-ghost use Rattle.std.specs.Prelude.{◌≡◌, ℕ, ◌+◌, ◌-◌, ◌*◌, ◌^◌, ◌<◌, ◌≤◌, List, map, length, replicate, Ok};
+ghost use Rattle.std.specs.Prelude.{◌≡◌, ◌≤◌, replicate};
 ghost use Rattle.layout.specs.Cursors.{HasRoom, wrote};
 ghost use Rattle.layout.specs.Words.{overwritten};
 ghost use Rattle.plan.specs.Functions.{text_of, functions_of};
@@ -10,6 +10,7 @@ use crate::info::write_info;
 use crate::layout_of::{FIRST_RVA, up16};
 use body::function::write_function;
 use layout::cursor::Cursor;
+use layout::word::Word;
 use plan::text::Plan;
 
 // What stands between functions.
@@ -24,14 +25,14 @@ fn write_gap(size: usize, out: &mut Cursor)
 }
 
 // Writes an entry of the function table.
+#[tactic(auto, using(crate::proofs::Filling::entry_written))]
 fn write_entry(begin: u32, end: u32, info: u32, out: &mut Cursor)
     requires { HasRoom out.old (entry begin end info) }
     ensures { out.new ≡ wrote out.old (entry begin end info) }
 {
-    let [b0, b1, b2, b3] = begin.to_le_bytes();
-    let [e0, e1, e2, e3] = end.to_le_bytes();
-    let [i0, i1, i2, i3] = info.to_le_bytes();
-    out.put(&[b0, b1, b2, b3, e0, e1, e2, e3, i0, i1, i2, i3]);
+    out.put(&begin.le_bytes());
+    out.put(&end.le_bytes());
+    out.put(&info.le_bytes());
 }
 
 // Writes the functions of an accepted plan one by one, each with its info and its entry, over slices that are long enough.

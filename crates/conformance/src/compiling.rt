@@ -9,9 +9,10 @@ use protocol::write::push_bytes;
 use std::alloc::{AllocError, Global};
 
 // The first bytes of a buffer, after a space.
-fn push_written(line: &mut Vec<u8>, buffer: &[u8], length: usize) -> Result<(), AllocError> {
+fn push_written(line: &mut Vec<u8>, mut buffer: Vec<u8>, length: usize) -> Result<(), AllocError> {
+    buffer.truncate(length);
     line.extend_from_slice(b" ")?;
-    push_bytes(line, buffer.get(0..length).unwrap_or(buffer))
+    push_bytes(line, buffer.as_slice())
 }
 
 pub fn compile_request(heap: Global, mut fields: Parts, line: &mut Vec<u8>) -> Result<(), Stop> {
@@ -31,8 +32,8 @@ pub fn compile_request(heap: Global, mut fields: Parts, line: &mut Vec<u8>) -> R
         table.as_mut_slice(),
     )?;
     line.extend_from_slice(b"ok")?;
-    push_written(line, code.as_slice(), lengths.code)?;
-    push_written(line, infos.as_slice(), lengths.infos)?;
-    push_written(line, table.as_slice(), lengths.table)?;
+    push_written(line, code, lengths.code)?;
+    push_written(line, infos, lengths.infos)?;
+    push_written(line, table, lengths.table)?;
     Ok(())
 }

@@ -24,36 +24,47 @@ pub fn list<T: Notation>(heap: Global, text: &[u8]) -> Result<Vec<T>, Bad> {
     Ok(all)
 }
 
-// Writes a list: what `push` writes for each item, joined by `,`, or `-` for none. Items are written by functions over
-// protocol's, whose text is proved to read back; an impl of Display would say nothing of it.
-pub fn push_list<T, F: FnMut(&mut Vec<u8>, &T) -> Result<(), AllocError>>(
+// Writes what `push` writes for each item, with a separator between two. Items are written by functions over protocol's,
+// whose text is proved to read back; an impl of Display would say nothing of it.
+fn push_separated<T, F: FnMut(&mut Vec<u8>, &T) -> Result<(), AllocError>>(
     line: &mut Vec<u8>,
     items: &[T],
+    separator: u8,
     mut push: F,
 ) -> Result<(), AllocError>
     requires { F.IsAlwaysCallable push }
 {
-    if items.is_empty() {
-        return line.extend_from_slice(b"-");
-    }
     for (i, item) in items.iter().enumerate() {
         if i > 0 {
-            line.extend_from_slice(b",")?;
+            line.push(separator)?;
         }
         push(line, item)?;
     }
     Ok(())
 }
 
+// Writes a list: its items joined by `,`, or `-` for none.
+pub fn push_list<T, F: FnMut(&mut Vec<u8>, &T) -> Result<(), AllocError>>(
+    line: &mut Vec<u8>,
+    items: &[T],
+    push: F,
+) -> Result<(), AllocError>
+    requires { F.IsAlwaysCallable push }
+{
+    if items.is_empty() {
+        return line.extend_from_slice(b"-");
+    }
+    push_separated(line, items, b',', push)
+}
+
 // Numbers in hexadecimal, joined by `.`.
 pub fn push_joined(line: &mut Vec<u8>, numbers: &[u32]) -> Result<(), AllocError> {
-    for (i, n) in numbers.iter().enumerate() {
-        if i > 0 {
-            line.extend_from_slice(b".")?;
-        }
-        push_hex(line, u128::from(*n))?;
-    }
-    Ok(())
+    push_separated(
+        line,
+        numbers,
+        b'.',
+        |line, n| push_hex(line, u128::from(*n)),
+    )
 }
 
 impl Notation for Address {

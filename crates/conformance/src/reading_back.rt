@@ -2,7 +2,8 @@
 use crate::list::{push_joined, push_list};
 use crate::short::rva;
 use crate::stop::Stop;
-use layout::address::{Address, Rva};
+use crate::tabling::loaded;
+use layout::address::Address;
 use plan::text::{Counts, StepRecord};
 use protocol::bytes::byte_string;
 use protocol::parts::Parts;
@@ -11,7 +12,6 @@ use readback::read::read_back;
 use std::alloc::{AllocError, Global};
 use tables::area::InfoArea;
 use tables::entry::Entry;
-use tables::load::load_table;
 use tables::module::{Extent, MAX_ENTRIES, Module};
 
 // An info has at most 255 slots, and a step takes one or more.
@@ -31,19 +31,6 @@ fn push_step(line: &mut Vec<u8>, step: StepRecord) -> Result<(), AllocError> {
     push_joined(line, &[kind, register, step.number])
 }
 
-// The entries of a table in a module that lies here.
-fn entries_of(heap: Global, table: &[u8], extent: Extent) -> Result<Vec<Entry>, Stop> {
-    let none = Entry {
-        begin: Rva(0),
-        end: Rva(0),
-        info: Rva(0),
-    };
-    let room = (table.len() / 12).min(MAX_ENTRIES);
-    let mut entries = vec![in heap; none; room]?;
-    load_table(table, extent, entries.as_mut_slice())?;
-    Ok(entries)
-}
-
 // The steps of a module's functions, as the answer lists them.
 fn push_module(heap: Global, module: &Module, line: &mut Vec<u8>) -> Result<(), Stop> {
     let no_counts = Counts {
@@ -61,21 +48,17 @@ fn push_module(heap: Global, module: &Module, line: &mut Vec<u8>) -> Result<(), 
     let mut steps = vec![in heap; no_step; count.saturating_mul(most)]?;
     let lengths = read_back(module, functions.as_mut_slice(), steps.as_mut_slice())?;
     line.extend_from_slice(b"ok ")?;
-    let functions = functions.as_slice().get(..lengths.functions);
-    push_list(line, functions.unwrap_or(&[]), |line, counts| {
+    functions.truncate(lengths.functions);
+    push_list(line, functions.as_slice(), |line, counts| {
         push_counts(line, *counts)
     })?;
     line.extend_from_slice(b" ")?;
-    let steps = steps.as_slice().get(..lengths.steps);
-    push_list(
-        line,
-        steps.unwrap_or(&[]),
-        |line, step| push_step(line, *step),
-    )?;
+    steps.truncate(lengths.steps);
+    push_list(line, steps.as_slice(), |line, step| push_step(line, *step))?;
     Ok(())
 }
 
-// A module of entries whose infos lie in an area.
+// A module of entries whose infos lie in an area. By a function: in a literal the two lenders would have to be one.
 fn module_of<'a>(extent: Extent, entries: &'a [Entry], area: InfoArea<'a>) -> Module<'a> {
     Module {
         extent,
@@ -95,7 +78,8 @@ pub fn read_back_request(heap: Global, mut fields: Parts, line: &mut Vec<u8>) ->
         base: Address(0),
         size,
     };
-    let entries = entries_of(heap, table.as_slice(), extent)?;
+    let room = (table.len() / 12).min(MAX_ENTRIES);
+    let entries = loaded(heap, table.as_slice(), extent, room)?;
     let area = InfoArea {
         bytes: bytes.as_slice(),
         start,

@@ -26,26 +26,24 @@ pub enum Stop {
     Plan(#[from] PlanRefusal),
     #[error("refused {}", .0.number())]
     Read(#[from] ReadRefusal),
-    // An info was refused, at a slot.
+    // Refused at a slot.
     #[error("refused {} {}", .0.number(), .0.slot_number())]
     Info(#[from] InfoRefusal),
-    #[error("refused {} {OUTSIDE_CODES}", .0.number())]
-    Records(ListRefusal),
+    #[error("refused {} {}", .0.number(), slot_of(.0))]
+    List(#[from] ListRefusal),
+}
+
+// Where there are too few records, no code is at work.
+fn slot_of(refusal: &ListRefusal) -> u16 {
+    match refusal {
+        ListRefusal::BadInfo(e) => e.slot_number(),
+        ListRefusal::TooFewRecords => OUTSIDE_CODES,
+    }
 }
 
 // By hand: want of memory is told like a line that cannot be read.
 impl From<AllocError> for Stop {
     fn from(_e: AllocError) -> Stop {
         Stop::Bad(Bad::NoMemory)
-    }
-}
-
-// By hand: its two cases are told in two ways.
-impl From<ListRefusal> for Stop {
-    fn from(refusal: ListRefusal) -> Stop {
-        match refusal {
-            ListRefusal::BadInfo(e) => Stop::Info(e),
-            ListRefusal::TooFewRecords => Stop::Records(refusal),
-        }
     }
 }

@@ -16,6 +16,19 @@ pub fn push_entry(line: &mut Vec<u8>, entry: Entry) -> Result<(), AllocError> {
     push_joined(line, &[entry.begin.0, entry.end.0, entry.info.0])
 }
 
+// The entries of a table in a module that lies here, if there are no more than `room`.
+pub fn loaded(heap: Global, table: &[u8], extent: Extent, room: usize) -> Result<Vec<Entry>, Stop> {
+    let none = Entry {
+        begin: Rva(0),
+        end: Rva(0),
+        info: Rva(0),
+    };
+    let mut entries = vec![in heap; none; room]?;
+    let n = load_table(table, extent, entries.as_mut_slice())?;
+    entries.truncate(n);
+    Ok(entries)
+}
+
 pub fn table(heap: Global, mut fields: Parts, line: &mut Vec<u8>) -> Result<(), Stop> {
     let bytes = byte_string(heap, fields.part()?)?;
     let base = Address(number(fields.part()?)?);
@@ -24,16 +37,12 @@ pub fn table(heap: Global, mut fields: Parts, line: &mut Vec<u8>) -> Result<(), 
     // More records than a table can have entries make no difference.
     let room = count(fields.part()?, MAX_ENTRIES)?;
     fields.end()?;
-    let none = Entry {
-        begin: Rva(0),
-        end: Rva(0),
-        info: Rva(0),
-    };
-    // The library writes into records that it is lent, so the count stands beside them.
-    let mut records = vec![in heap; none; room]?;
-    let n = load_table(bytes.as_slice(), extent, records.as_mut_slice())?;
+    let entries = loaded(heap, bytes.as_slice(), extent, room)?;
     line.extend_from_slice(b"ok ")?;
-    let entries = records.as_slice().get(..n).unwrap_or(&[]);
-    push_list(line, entries, |line, entry| push_entry(line, *entry))?;
+    push_list(
+        line,
+        entries.as_slice(),
+        |line, entry| push_entry(line, *entry),
+    )?;
     Ok(())
 }

@@ -46,7 +46,7 @@ fn push_header(line: &mut Vec<u8>, info: &Info) -> Result<(), AllocError> {
     push_bytes(line, info.slots)
 }
 
-// The size or the byte offset, 0 where there is none.
+// The size or the byte offset, and 0 where there is none, as the line has it.
 fn value_of(operation: Operation) -> u32 {
     match operation {
         Operation::Push(_) | Operation::SetFrame => 0,
@@ -55,7 +55,8 @@ fn value_of(operation: Operation) -> u32 {
     }
 }
 
-// `slot.offset.op.info.value`; operation and info are the halves of the code's second byte.
+// `slot.offset.op.info.value`; operation and info are the halves of the code's second byte. Its place is not proved to lie in
+// the slots, so a byte that is not there is written as 0, which does not come up.
 fn push_code(line: &mut Vec<u8>, slots: &[u8], code: Code) -> Result<(), AllocError> {
     let at = code.slot.saturating_mul(2).saturating_add(1);
     let second = slots.get(at).copied().unwrap_or(0);
@@ -84,13 +85,17 @@ pub fn info(heap: Global, mut fields: Parts, line: &mut Vec<u8>) -> Result<(), S
     };
     let mut records = vec![in heap; none; room]?;
     let n = list_codes(area, at, records.as_mut_slice())?;
+    records.truncate(n);
     let view = read_info(area, at)?;
     line.extend_from_slice(b"ok ")?;
     push_header(line, &view)?;
     line.extend_from_slice(b" ")?;
     push_tail(line, view.tail)?;
     line.extend_from_slice(b" ")?;
-    let codes = records.as_slice().get(..n).unwrap_or(&[]);
-    push_list(line, codes, |line, code| push_code(line, view.slots, *code))?;
+    push_list(
+        line,
+        records.as_slice(),
+        |line, code| push_code(line, view.slots, *code),
+    )?;
     Ok(())
 }

@@ -6,6 +6,7 @@ use Rattle.cpu.specs.declared.intent.Access.{Access}
 use Rattle.cpu.specs.declared.intent.Access.TheVariants as access
 use Rattle.cpu.specs.declared.intent.Change.{Change}
 use Rattle.cpu.specs.declared.intent.Intent.{Intent}
+use Rattle.cpu.specs.declared.processor.Area.{Area}
 use Rattle.cpu.specs.declared.processor.OutsideStack.{OutsideStack}
 use Rattle.cpu.specs.Effects.{place}
 use Rattle.cpu.specs.Processors.{State}
@@ -27,6 +28,18 @@ accessible (Some a) low size = holds_word low size (place a)
 
 abbrev pub permitted : Intent → ℕ → ℕ → Bool
 permitted it low size = accessible it.access low size && settles low size it.rsp
+
+-- the eight bytes lie in an area that is only read
+abbrev pub in_area : Area → ℕ → Bool
+in_area area at = holds_word area.low (length area.bytes.now) at
+
+-- the area of a state has the word accessed
+abbrev pub accessible_in : Option Access → State → Bool
+accessible_in a s = accessible a s.low (length s.stack)
+
+-- a state in which an intent is not refused
+abbrev pub permitted_in : Intent → State → Bool
+permitted_in it s = permitted it s.low (length s.stack)
 
 abbrev pub with_register : Registers → ℕ → ℕ → Registers
 with_register regs r v = record { rip = regs.rip; integer = slice_set regs.integer r v; xmm = regs.xmm }

@@ -1,5 +1,5 @@
 // What an instruction is about to do, from the registers alone.
-ghost use Rattle.std.specs.Prelude.{◌≡◌, ℕ, ◌≤◌, Some, None};
+ghost use Rattle.std.specs.Prelude.{◌≡◌, Some};
 ghost use Rattle.cpu.specs.Effects.{signed, moved, moved_back, intended, register_value, below, above, place};
 
 use layout::registers::{RSP, Registers};
@@ -102,7 +102,8 @@ fn behind(from: u64, d: u32) -> u64
     from.wrapping_sub(extend(d))
 }
 
-// The value of an integer register, 0 where there is no such register.
+// The value of an integer register. An instruction may have any number for a register; where there is none of that
+// number, its value is 0, here and in the definition.
 pub fn value_of(registers: &Registers, register: u8) -> u64
     ensures { result ≡ register_value registers.now register }
 {

@@ -1,9 +1,9 @@
 // A register set over a stack area, and carrying intents out on them where the area and RSP allow it.
-ghost use Rattle.std.specs.Prelude.{◌≡◌, ℕ, ◌-◌, ◌<◌, true, length, is_ok, if◌then◌else◌, Ok, Err};
+ghost use Rattle.std.specs.Prelude.{◌≡◌, ◌-◌, true, is_ok, if◌then◌else◌, Ok, Err};
 ghost use Rattle.std.specs.Result.{result_map_both};
 ghost use Rattle.layout.specs.Words.{le_at};
 ghost use Rattle.cpu.specs.Effects.{intended};
-ghost use Rattle.cpu.specs.Performance.{stack_number, settles, holds_word, area_word, accessible, permitted, changed, loading, stack_after, performed, with_register};
+ghost use Rattle.cpu.specs.Performance.{stack_number, holds_word, in_area, area_word, accessible_in, permitted_in, changed, loading, stack_after, performed, with_register};
 ghost use Rattle.cpu.specs.Processors.{state_of, in_state, with_registers};
 
 use crate::intent::{Access, Change, Intent, intent_of};
@@ -51,33 +51,16 @@ pub struct Area<'a> {
 }
 
 impl<'a> Area<'a> {
-    // Whether RSP may stand here: from the area's first address up to its end.
-    fn may_stand(self, rsp: u64) -> bool
-        ensures { result ≡ settles self.entry.low (length self.entry.bytes.now) rsp }
-    {
-        self.low <= rsp && rsp - self.low <= self.bytes.len() as u64
-    }
-
     // Whether the eight bytes at an address lie in the area.
     pub fn holds(self, at: u64) -> bool
-        ensures { result ≡ holds_word self.entry.low (length self.entry.bytes.now) at }
+        ensures { result ≡ in_area self.entry at }
     {
         holds(self.low, self.bytes.len(), at)
     }
 
-    fn may_access(self, access: Option<Access>) -> bool
-        ensures { result ≡ accessible access self.entry.low (length self.entry.bytes.now) }
-    {
-        // By a match: a closure that takes `self` along would need a clause of its own.
-        match access {
-            Some(a) => self.holds(a.at()),
-            None => true,
-        }
-    }
-
     // The word at an address, which lies in the area.
     fn word(self, at: u64) -> u64
-        requires { holds_word self.low (length self.bytes.now) at ≡ true }
+        requires { in_area self at ≡ true }
         ensures { result ≡ le_at 8 self.entry.bytes.now (at - self.entry.low) }
     {
         le_at(self.bytes, (at - self.low) as usize)
@@ -114,6 +97,18 @@ impl<'a> Processor<'a> {
         }
     }
 
+    // Whether the word accessed lies in the area, and RSP afterwards stands from its first address up to its end.
+    fn permits(&self, intent: Intent) -> bool
+        ensures { result ≡ permitted_in intent (state_of self.now) }
+    {
+        // By a match: with `is_none_or` the proof wants a file of its own.
+        let reached = match intent.access {
+            Some(a) => self.area().holds(a.at()),
+            None => true,
+        };
+        reached && self.low <= intent.rsp && intent.rsp - self.low <= self.stack.len() as u64
+    }
+
     fn make_change(&mut self, change: Option<Change>)
         ensures { self.new ≡ with_registers self.old (changed change self.old.registers) }
     {
@@ -124,7 +119,7 @@ impl<'a> Processor<'a> {
 
     // Loads a register or RIP from the area, or sets RIP.
     fn load(&mut self, intent: Intent)
-        requires { accessible intent.access self.old.low (length self.old.stack.now) ≡ true }
+        requires { accessible_in intent.access (state_of self.old) ≡ true }
         ensures { self.new ≡ with_registers self.old (loading intent self.old.low self.old.stack.now self.old.registers) }
     {
         self.registers.rip = Address(intent.rip);
@@ -139,21 +134,21 @@ impl<'a> Processor<'a> {
     }
 
     fn store(&mut self, intent: Intent)
-        requires { accessible intent.access self.old.low (length self.old.stack.now) ≡ true }
+        requires { accessible_in intent.access (state_of self.old) ≡ true }
         ensures { self.new ≡ in_state self.old (record (state_of self.old) { stack = stack_after intent self.old.low self.old.stack.now }) }
     {
         if let Some(Access::Store { at, value }) = intent.access {
+            // Not refused: the word lies in the area.
             let _ = write_word(self.stack, (at - self.low) as usize, value);
         }
     }
 
     // Carries the intent out, or refuses with 62 and changes nothing.
     pub fn perform(&mut self, intent: Intent) -> Result<(), OutsideStack>
-        ensures answer { result_map_both (λ x. x) stack_number result ≡ (if permitted intent self.old.low (length self.old.stack.now) then Ok tt else Err 62) }
+        ensures answer { result_map_both (λ x. x) stack_number result ≡ (if permitted_in intent (state_of self.old) then Ok tt else Err 62) }
         ensures after { self.new ≡ (if is_ok result then in_state self.old (performed intent (state_of self.old)) else self.old) }
     {
-        let area = self.area();
-        if !area.may_access(intent.access) || !area.may_stand(intent.rsp) {
+        if !self.permits(intent) {
             return Err(OutsideStack);
         }
         self.make_change(intent.change);
@@ -165,7 +160,7 @@ impl<'a> Processor<'a> {
 
     // Carries out an instruction of `taken` bytes at RIP, or refuses with 62 and changes nothing.
     pub fn execute(&mut self, i: Instruction, taken: u64) -> Result<(), OutsideStack>
-        ensures answer { result_map_both (λ x. x) stack_number result ≡ (if permitted (intended i taken self.old.registers) self.old.low (length self.old.stack.now) then Ok tt else Err 62) }
+        ensures answer { result_map_both (λ x. x) stack_number result ≡ (if permitted_in (intended i taken self.old.registers) (state_of self.old) then Ok tt else Err 62) }
         ensures after { self.new ≡ (if is_ok result then in_state self.old (performed (intended i taken self.old.registers) (state_of self.old)) else self.old) }
     {
         let intent = intent_of(i, taken, &self.registers);

@@ -1,5 +1,5 @@
 -- Codes one by one: what they come to, how many they are, and one turn of an iterator over them.
-use Rattle.std.proofs.Common.{◌≡◌, ℕ, zero, suc, ◌+◌, ◌*◌, ◌/◌, ◌%◌, ◌<◌, ◌≤◌, Bool, true, false, cond, leb, List, [], ◌∷◌, map, length, drop, get_or, is_ok, IfOk, Ok, Err, Result, sym, refl, ap, ◌∙◌, arith, ◌==◌}
+use Rattle.std.proofs.Common.{◌≡◌, ℕ, zero, suc, ◌+◌, ◌*◌, ◌/◌, ◌%◌, ◌<◌, ◌≤◌, Bool, true, false, cond, leb, List, [], ◌∷◌, map, length, drop, get_or, is_ok, IfOk, Some, Ok, Err, Result, sym, refl, ap, ◌∙◌, arith, ◌==◌}
 use Rattle.std.proofs.lemmas.List.{length-drop, length-map}
 use Rattle.std.proofs.lemmas.Bool.{le-leb, lt-leb, leb-true, false≢true}
 use Rattle.infos.specs.Codes.{bind, width, meant, decoded_in}
@@ -31,7 +31,7 @@ unfolding outcomes codes_from
 gathered-outcomes zero frame s slot bs = refl
 gathered-outcomes (suc k) frame s slot bs =
     where_long (leb 2 (length bs)) _ _
-    (follow (at_slot slot (decoded_in slot bs)) (λ c. at_slot slot (admitted frame s c)) _ _ (λ p. gathered-outcomes k frame p.1 (slot + p.0.1) (drop (2 * p.0.1) bs)))
+    (follow (at_slot (Some slot) (decoded_in slot bs)) (λ c. at_slot (Some slot) (admitted frame s c)) _ _ (λ p. gathered-outcomes k frame p.1 (slot + p.0.1) (drop (2 * p.0.1) bs)))
 
 -- ---- a code takes a slot at least
 either : (b : Bool) (r q : Result ℕ ℕ) → IfOk r (λ n. 1 ≤ n) → IfOk q (λ n. 1 ≤ n) → IfOk (cond b r q) (λ n. 1 ≤ n)
@@ -66,12 +66,12 @@ agreed_code (Ok t) q p e = let u : ◌≡◌ {A = (Code × ℕ) × Progress} (q,
 agreed_code (Err d) q p e = absurd (cc)
 
 taken_of : (d : Result (Code × ℕ) ℕ) (slot : ℕ) (a : Code → Result Progress InfoFault) (p : (Code × ℕ) × Progress) → ((q : Code × ℕ) → d ≡ Ok q → 1 ≤ q.1) →
-    bind (at_slot slot d) (λ q. bind (a q.0) (λ t. Ok (q, t))) ≡ Ok p → 1 ≤ p.0.1
+    bind (at_slot (Some slot) d) (λ q. bind (a q.0) (λ t. Ok (q, t))) ≡ Ok p → 1 ≤ p.0.1
 taken_of (Ok q) slot a p f e = omega (arith, f q refl, ap (λ x. x.1) (agreed_code (a q.0) q p e))
 taken_of (Err d) slot a p f e = absurd (cc)
 
 taken_some : (frame : ℕ) (s : Progress) (slot : ℕ) (bs : List ℕ) (p : (Code × ℕ) × Progress) → taken frame s slot bs ≡ Ok p → 1 ≤ p.0.1
-taken_some frame s slot bs p e = taken_of (decoded_in slot bs) slot (λ c. at_slot slot (admitted frame s c)) p (decoded_some slot bs) e
+taken_some frame s slot bs p e = taken_of (decoded_in slot bs) slot (λ c. at_slot (Some slot) (admitted frame s c)) p (decoded_some slot bs) e
 
 -- ---- how many they are
 followed_few : (r : Result ((Code × ℕ) × Progress) InfoFault) (f : (Code × ℕ) × Progress → List (Result Code InfoFault)) (n : ℕ) → 2 ≤ n →
@@ -198,7 +198,7 @@ some_where : (b : Bool) (xs : List (Result Code InfoFault)) (x : Code) (rest : L
 some_where true xs x rest e = e
 some_where false xs x rest e = absurd (cc)
 
-taken_decoded : (d : Result (Code × ℕ) ℕ) (slot : ℕ) (a : Code → Result Progress InfoFault) (p : (Code × ℕ) × Progress) → bind (at_slot slot d) (λ q. bind (a q.0) (λ t. Ok (q, t))) ≡ Ok p → d ≡ Ok p.0
+taken_decoded : (d : Result (Code × ℕ) ℕ) (slot : ℕ) (a : Code → Result Progress InfoFault) (p : (Code × ℕ) × Progress) → bind (at_slot (Some slot) d) (λ q. bind (a q.0) (λ t. Ok (q, t))) ≡ Ok p → d ≡ Ok p.0
 taken_decoded (Ok q) slot a p e = ap Ok (agreed_code (a q.0) q p e)
 taken_decoded (Err d) slot a p e = absurd (cc)
 
@@ -226,7 +226,7 @@ unfolding outcomes
 slot_at zero frame s slot bs x rest e = absurd (cc)
 slot_at (suc k) frame s slot bs x rest e =
     let f = followed_first (taken frame s slot bs) _ x rest (some_where (leb 2 (length bs)) _ x rest e) in
-    let d = taken_decoded (decoded_in slot bs) slot (λ c. at_slot slot (admitted frame s c)) f.0 f.1 in
+    let d = taken_decoded (decoded_in slot bs) slot (λ c. at_slot (Some slot) (admitted frame s c)) f.0 f.1 in
     ap (λ c. c.slot) (sym f.2) ∙ decoded-slot slot bs f.0.0 d
 
 pub first_slot : (c : Codes) (x : Code) (rest : List (Result Code InfoFault)) → codes_left c ≡ Ok x ∷ rest → x.slot ≡ c.slot

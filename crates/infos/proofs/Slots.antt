@@ -1,5 +1,5 @@
 -- Codes read one after another: what is left of the slots gives what is left of the answer.
-use Rattle.std.proofs.Common.{◌≡◌, ℕ, zero, suc, ◌+◌, ◌*◌, ◌<◌, ◌≤◌, List, [], ◌∷◌, ◌++◌, length, drop, Ok, Err, Result, sym, refl, ap, ◌∙◌, arith}
+use Rattle.std.proofs.Common.{◌≡◌, ℕ, zero, suc, ◌+◌, ◌*◌, ◌<◌, ◌≤◌, List, [], ◌∷◌, ◌++◌, length, drop, Some, Ok, Err, Result, sym, refl, ap, ◌∙◌, arith}
 use Rattle.std.proofs.lemmas.List.{length-drop, append_assoc, append-nil}
 use Rattle.std.proofs.lemmas.Bool.{le-leb, lt-leb}
 use Rattle.infos.specs.Codes.{bind, decoded_in}
@@ -36,7 +36,7 @@ start prologue frame bs = record { fuel = length bs; enough = omega arith; same 
 
 -- one turn of the recursion
 module _ (k frame : ℕ) (s : Progress) (slot : ℕ) (bs : List ℕ) (h : 2 ≤ length bs) where
-  turn_step : (t : Progress) (used : ℕ) (c : Code) → at_slot slot (decoded_in slot bs) ≡ Ok (c, used) → at_slot slot (admitted frame s c) ≡ Ok t →
+  turn_step : (t : Progress) (used : ℕ) (c : Code) → at_slot (Some slot) (decoded_in slot bs) ≡ Ok (c, used) → at_slot (Some slot) (admitted frame s c) ≡ Ok t →
       codes_from (suc k) frame s slot bs ≡ bind (codes_from k frame t (slot + used) (drop (2 * used) bs)) (λ cs. Ok (c ∷ cs))
   unfolding codes_from
   turn_step t used c d a = rw (le-leb 2 (length bs) h, d, a)
@@ -48,7 +48,7 @@ ended_at (suc k) frame s slot bs done h = rw (lt-leb 2 (length bs) h, append-nil
 
 module _ (all : Codes) (frame : ℕ) (s : Progress) (slot : ℕ) (bs : List ℕ) (done : List Code) where
   step_at : (k : ℕ) → length bs ≤ k → all ≡ prefixed done (codes_from k frame s slot bs) → 2 ≤ length bs → (t : Progress) (used : ℕ) (c : Code) → 1 ≤ used →
-      at_slot slot (decoded_in slot bs) ≡ Ok (c, used) → at_slot slot (admitted frame s c) ≡ Ok t → Left all frame t (slot + used) (drop (2 * used) bs) (done ++ c ∷ [])
+      at_slot (Some slot) (decoded_in slot bs) ≡ Ok (c, used) → at_slot (Some slot) (admitted frame s c) ≡ Ok t → Left all frame t (slot + used) (drop (2 * used) bs) (done ++ c ∷ [])
   step_at zero l e h t used c u d a = absurd (omega arith)
   step_at (suc k) l e h t used c u d a =
       record {
@@ -59,7 +59,7 @@ module _ (all : Codes) (frame : ℕ) (s : Progress) (slot : ℕ) (bs : List ℕ)
 
 module _ {all : Codes} {frame : ℕ} {s : Progress} {slot : ℕ} {bs : List ℕ} {done : List Code} (l : Left all frame s slot bs done) where
   -- one more code
-  pub step : 2 ≤ length bs → (t : Progress) (used : ℕ) (c : Code) → 1 ≤ used → at_slot slot (decoded_in slot bs) ≡ Ok (c, used) → at_slot slot (admitted frame s c) ≡ Ok t →
+  pub step : 2 ≤ length bs → (t : Progress) (used : ℕ) (c : Code) → 1 ≤ used → at_slot (Some slot) (decoded_in slot bs) ≡ Ok (c, used) → at_slot (Some slot) (admitted frame s c) ≡ Ok t →
       Left all frame t (slot + used) (drop (2 * used) bs) (done ++ c ∷ [])
   step h t used c u d a = step_at all frame s slot bs done l.fuel l.enough l.same h t used c u d a
 

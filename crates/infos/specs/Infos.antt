@@ -2,10 +2,12 @@
 use Rattle.std.specs.Prelude.{ℕ, ◌+◌, ◌-◌, ◌*◌, ◌/◌, ◌%◌, cond, ◌&&◌, List, length, take, drop, Ok, Err, Result, ◌==◌, nat_le, slice_index, slice_index_or}
 use Rattle.std.specs.Result.{result_map_both}
 use Rattle.layout.specs.Words.{le_at}
+use Rattle.layout.specs.declared.address.Rva.{Rva}
 use Rattle.tables.specs.Entries.{entry_at}
+use Rattle.tables.specs.declared.area.InfoArea.{InfoArea}
 use Rattle.tables.specs.declared.entry.Entry.{Entry}
 use Rattle.infos.specs.Codes.{bind}
-use Rattle.infos.specs.Refusals.{InfoFault, reason_number, at_slot, info_fault}
+use Rattle.infos.specs.Refusals.{InfoFault, reason_number, outside, info_fault}
 use Rattle.infos.specs.Sequences.{codes_of}
 use Rattle.infos.specs.declared.info.Info.{Info}
 use Rattle.infos.specs.declared.info.Tail.{Tail}
@@ -79,4 +81,11 @@ located area start rva =
 
 -- the info at an RVA, if its codes are good too
 abbrev pub info_at : List ℕ → ℕ → ℕ → Result InfoOf InfoFault
-info_at area start rva = bind (at_slot 65535 (located area start rva)) (λ i. bind (codes_of i.prologue i.frame_register i.slots) (λ _. Ok i))
+info_at area start rva = bind (outside (located area start rva)) (λ i. bind (codes_of i.prologue i.frame_register i.slots) (λ _. Ok i))
+
+-- these two, of an area as a struct
+abbrev pub located_in : InfoArea → Rva → Result InfoOf ℕ
+located_in area rva = located area.bytes.now area.start.0 rva.0
+
+abbrev pub info_in : InfoArea → Rva → Result InfoOf InfoFault
+info_in area rva = info_at area.bytes.now area.start.0 rva.0

@@ -1,5 +1,7 @@
 -- The codes of an info in the caller's records.
-use Rattle.std.specs.Prelude.{ℕ, cond, List, [], ◌++◌, length, drop, Ok, Err, Result, nat_le}
+use Rattle.std.specs.Prelude.{ℕ, cond, List, [], ◌++◌, length, drop, None, Ok, Err, Result, nat_le}
+use Rattle.layout.specs.declared.address.Rva.{Rva}
+use Rattle.tables.specs.declared.area.InfoArea.{InfoArea}
 use Rattle.infos.specs.Codes.{bind}
 use Rattle.infos.specs.Infos.{info_at}
 use Rattle.infos.specs.Refusals.{InfoFault, fault_at}
@@ -18,9 +20,16 @@ codes_at area start rva = bind (info_at area start rva) (λ i. codes_of i.prolog
 
 -- how many codes are listed: what is wrong with the info first, and last 22 where the records are too few
 abbrev pub listing : List ℕ → ℕ → ℕ → ℕ → Result ℕ InfoFault
-listing area start rva room = bind (codes_at area start rva) (λ cs. cond (nat_le (length cs) room) (Ok (length cs)) (Err (fault_at 65535 22)))
+listing area start rva room = bind (codes_at area start rva) (λ cs. cond (nat_le (length cs) room) (Ok (length cs)) (Err (fault_at None 22)))
 
 -- the records after that
 abbrev pub listed_in : List ℕ → ℕ → ℕ → List Code → Result ℕ ListRefusal → List Code
 listed_in area start rva records (Ok n) = listed (codes_at area start rva) ++ drop n records
 listed_in area start rva records (Err _) = records
+
+-- these two, of an area as a struct
+abbrev pub listing_in : InfoArea → Rva → ℕ → Result ℕ InfoFault
+listing_in area rva room = listing area.bytes.now area.start.0 rva.0 room
+
+abbrev pub records_in : InfoArea → Rva → List Code → Result ℕ ListRefusal → List Code
+records_in area rva records r = listed_in area.bytes.now area.start.0 rva.0 records r

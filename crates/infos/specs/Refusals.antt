@@ -1,6 +1,5 @@
 -- Refusals of infos, by number and slot.
-use Rattle.std.specs.Prelude.{ℕ, Result}
-use Rattle.std.specs.Option.{unwrap_or}
+use Rattle.std.specs.Prelude.{ℕ, None, Option, Result}
 use Rattle.std.specs.Result.{result_map_both}
 use Rattle.infos.specs.declared.refusal.InfoReason.{InfoReason}
 use Rattle.infos.specs.declared.refusal.InfoReason.TheVariants.{Cut, Version, Flags, BadCode, PastCount, Disorder}
@@ -16,16 +15,16 @@ reason_number BadCode = 43
 reason_number PastCount = 44
 reason_number Disorder = 45
 
--- a refusal's number, and the first slot of the code at work, 65535 outside codes
+-- a refusal's number, and the first slot of the code at work, none outside codes
 pub record InfoFault : Type 0 where
   pub number : ℕ
-  pub slot : ℕ
+  pub slot : Option ℕ
 
-abbrev pub fault_at : ℕ → ℕ → InfoFault
+abbrev pub fault_at : Option ℕ → ℕ → InfoFault
 fault_at slot number = record { number = number; slot = slot }
 
 abbrev pub info_fault : InfoRefusal → InfoFault
-info_fault e = fault_at (unwrap_or e.slot 65535) (reason_number e.reason)
+info_fault e = fault_at e.slot (reason_number e.reason)
 
 abbrev pub info_number : InfoRefusal → ℕ
 info_number e = (info_fault e).number
@@ -33,7 +32,7 @@ info_number e = (info_fault e).number
 -- too few records have no slot
 abbrev pub list_fault : ListRefusal → InfoFault
 list_fault (BadInfo e) = info_fault e
-list_fault TooFewRecords = fault_at 65535 22
+list_fault TooFewRecords = fault_at None 22
 
 abbrev pub list_number : ListRefusal → ℕ
 list_number e = (list_fault e).number
@@ -42,9 +41,9 @@ list_number e = (list_fault e).number
 abbrev pub told : {X : Type 0} → Result X InfoRefusal → Result X InfoFault
 told r = result_map_both (λ x. x) info_fault r
 
--- an answer by number, met at a slot
-abbrev pub at_slot : {X : Type 0} → ℕ → Result X ℕ → Result X InfoFault
+-- an answer by number, met at a slot or outside codes
+abbrev pub at_slot : {X : Type 0} → Option ℕ → Result X ℕ → Result X InfoFault
 at_slot slot r = result_map_both (λ x. x) (fault_at slot) r
 
-abbrev pub in_slot : {X : Type 0} → ℕ → Result X InfoReason → Result X InfoFault
-in_slot slot r = at_slot slot (result_map_both (λ x. x) reason_number r)
+abbrev pub outside : {X : Type 0} → Result X ℕ → Result X InfoFault
+outside r = at_slot None r

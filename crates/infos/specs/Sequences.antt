@@ -1,5 +1,5 @@
 -- The codes of an info in array order, each good by those before it.
-use Rattle.std.specs.Prelude.{ℕ, zero, suc, ◌+◌, ◌*◌, Bool, true, false, cond, ◌&&◌, ◌||◌, List, [], ◌∷◌, length, drop, Ok, Err, Result, ◌==◌, nat_le}
+use Rattle.std.specs.Prelude.{ℕ, zero, suc, ◌+◌, ◌*◌, Bool, true, false, cond, ◌&&◌, ◌||◌, List, [], ◌∷◌, length, drop, Some, Ok, Err, Result, ◌==◌, nat_le}
 use Rattle.infos.specs.Codes.{bind, decoded_in}
 use Rattle.infos.specs.Refusals.{InfoFault, at_slot}
 use Rattle.infos.specs.declared.code.Code.{Code}
@@ -25,7 +25,7 @@ unfoldable pub codes_from : ℕ → ℕ → Progress → ℕ → List ℕ → Re
 codes_from zero frame s slot bs = Ok []
 codes_from (suc fuel) frame s slot bs =
     cond (nat_le 2 (length bs))
-    (bind (at_slot slot (decoded_in slot bs)) (λ p. bind (at_slot slot (admitted frame s p.0)) (λ t. bind (codes_from fuel frame t (slot + p.1) (drop (2 * p.1) bs)) (λ cs. Ok (p.0 ∷ cs)))))
+    (bind (at_slot (Some slot) (decoded_in slot bs)) (λ p. bind (at_slot (Some slot) (admitted frame s p.0)) (λ t. bind (codes_from fuel frame t (slot + p.1) (drop (2 * p.1) bs)) (λ cs. Ok (p.0 ∷ cs)))))
     (Ok [])
 
 abbrev pub before_codes : ℕ → Progress
@@ -37,7 +37,7 @@ codes_of prologue frame ss = codes_from (length ss) frame (before_codes prologue
 
 -- the code that bytes at a slot begin with, how many slots it takes, and what holds after it
 abbrev pub taken : ℕ → Progress → ℕ → List ℕ → Result ((Code × ℕ) × Progress) InfoFault
-taken frame s slot bs = bind (at_slot slot (decoded_in slot bs)) (λ p. bind (at_slot slot (admitted frame s p.0)) (λ t. Ok (p, t)))
+taken frame s slot bs = bind (at_slot (Some slot) (decoded_in slot bs)) (λ p. bind (at_slot (Some slot) (admitted frame s p.0)) (λ t. Ok (p, t)))
 
 -- a code that was taken with what follows it, or its refusal, which nothing follows
 abbrev pub followed : Result ((Code × ℕ) × Progress) InfoFault → ((Code × ℕ) × Progress → List (Result Code InfoFault)) → List (Result Code InfoFault)

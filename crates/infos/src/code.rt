@@ -1,5 +1,5 @@
 // Unwind codes, decoded one by one.
-ghost use Rattle.std.specs.Prelude.{◌≡◌, ℕ, ◌+◌, ◌*◌, ◌^◌, ◌<◌, ◌≤◌, length, IfOk, MatchResult};
+ghost use Rattle.std.specs.Prelude.{◌≡◌, ◌+◌, ◌*◌, ◌^◌, ◌<◌, ◌≤◌, length, IfOk, MatchResult};
 ghost use Rattle.std.specs.Result.{result_map_both};
 ghost use Rattle.layout.specs.Words.{le_at};
 ghost use Rattle.infos.specs.Codes.{width, meant, decoded_in, code_at};
@@ -26,7 +26,8 @@ pub struct Code {
     pub operation: Operation,
 }
 
-// How many slots a code takes, by its operation and its info.
+// How many slots a code takes, by its operation and its info. Here and in `meaning` an operation is the number that the format
+// gives: an enum would be made by one more match.
 fn slots_of(op: u8, info: u8) -> Result<usize, InfoReason>
     ensures value { result_map_both (λ n. n) reason_number result ≡ width op info }
     ensures some { IfOk result (λ n. 1 ≤ n) }

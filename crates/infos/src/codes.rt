@@ -1,5 +1,5 @@
 // An info's codes, one by one.
-ghost use Rattle.std.specs.Prelude.{◌≡◌, ℕ, ◌+◌, ◌*◌, ◌≤◌, length, IfOk};
+ghost use Rattle.std.specs.Prelude.{◌≡◌, ◌+◌, ◌*◌, ◌≤◌, length, IfOk};
 ghost use Rattle.std.specs.Iterator.{YieldsFirstBy, item_count};
 ghost use Rattle.std.specs.Result.{result_map_both};
 ghost use Rattle.infos.specs.Refusals.{info_fault, told};
@@ -45,15 +45,9 @@ impl<'a> Codes<'a> {
         ensures value { result_map_both (λ p. p) info_fault result ≡ taken self.now.frame self.now.sofar self.now.slot self.now.slots.now }
         ensures within { IfOk result (λ p. (1 ≤ p.0.1) × (2 * p.0.1 ≤ length self.now.slots.now)) }
     {
-        let slot = Some(self.slot as u16);
-        let (code, used) = decode_first(self.slot, self.slots).map_err(|reason| InfoRefusal {
-            reason,
-            slot,
-        })?;
-        let sofar = admit(self.frame, self.sofar, code).map_err(|reason| InfoRefusal {
-            reason,
-            slot,
-        })?;
+        let slot = self.slot as u16;
+        let (code, used) = decode_first(self.slot, self.slots).map_err(|reason| reason.at(slot))?;
+        let sofar = admit(self.frame, self.sofar, code).map_err(|reason| reason.at(slot))?;
         Ok(((code, used), sofar))
     }
 

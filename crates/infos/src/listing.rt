@@ -1,8 +1,8 @@
 // All codes of an info in the caller's records.
-ghost use Rattle.std.specs.Prelude.{◌≡◌, ℕ, ◌≤◌, true, ◌++◌, length, drop, is_ok};
+ghost use Rattle.std.specs.Prelude.{◌≡◌, ◌≤◌, true, ◌++◌, length, drop, is_ok};
 ghost use Rattle.std.specs.Result.{result_map_both};
 ghost use Rattle.infos.specs.Codings.{codes_left};
-ghost use Rattle.infos.specs.Listings.{codes_at, listing, listed_in, listed};
+ghost use Rattle.infos.specs.Listings.{listing_in, records_in, listed};
 ghost use Rattle.infos.specs.Refusals.{list_fault};
 ghost use Rattle.infos.specs.Sequences.{gathered};
 
@@ -29,8 +29,8 @@ fn write_codes(codes: Codes<'_>, records: &mut [Code])
 // Fills the caller's records with the codes of the info at an RVA, in array order, and answers how many there are.
 // A refusal, with 22 last, changes no record; the records past the codes stay.
 pub fn list_codes(area: InfoArea<'_>, rva: Rva, records: &mut [Code]) -> Result<usize, ListRefusal>
-    ensures answer { result_map_both (λ n. n) list_fault result ≡ listing area.entry.bytes.now area.entry.start.0 rva.0 (length records.old) }
-    ensures after { records.new ≡ listed_in area.entry.bytes.now area.entry.start.0 rva.0 records.old result }
+    ensures answer { result_map_both (λ n. n) list_fault result ≡ listing_in area.entry rva (length records.old) }
+    ensures after { records.new ≡ records_in area.entry rva records.old result }
 {
     let info = read_info(area, rva)?;
     let n = info.codes().check()?;

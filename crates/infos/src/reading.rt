@@ -1,6 +1,6 @@
 // Reading the unwind info at an RVA.
-ghost use Rattle.std.specs.Prelude.{◌≡◌, ℕ, ◌+◌, ◌*◌, ◌^◌, ◌≤◌, length};
-ghost use Rattle.infos.specs.Infos.{padded, tail_size, tail_in, tail_view, header_in, header_view, located, info_at, info_view};
+ghost use Rattle.std.specs.Prelude.{◌≡◌, ◌+◌, ◌*◌, ◌^◌, ◌≤◌, length};
+ghost use Rattle.infos.specs.Infos.{padded, tail_size, tail_in, tail_view, header_in, header_view, located_in, info_in, info_view};
 
 use crate::info::{Info, Tail};
 use crate::refusal::{InfoReason, InfoRefusal};
@@ -17,7 +17,8 @@ fn padded_count(count: u8) -> usize
     n + n % 2
 }
 
-// How many bytes the tail has at least.
+// How many bytes the tail has at least. Here and in `read_tail` the flags are the number that the format gives: an enum would
+// be made by one more match.
 fn least_tail(flags: u8) -> usize
     ensures { result ≡ tail_size flags }
 {
@@ -79,7 +80,7 @@ fn read_header(bytes: &[u8], at: usize) -> Result<Info<'_>, InfoReason>
 
 // The info at an RVA of an area; its codes are not looked at.
 fn locate(area: InfoArea<'_>, rva: Rva) -> Result<Info<'_>, InfoReason>
-    ensures { header_view result ≡ located area.entry.bytes.now area.entry.start.0 rva.0 }
+    ensures { header_view result ≡ located_in area.entry rva }
 {
     if rva.0 % 4 != 0 || rva.0 < area.start.0 {
         return Err(InfoReason::Cut);
@@ -93,7 +94,7 @@ fn locate(area: InfoArea<'_>, rva: Rva) -> Result<Info<'_>, InfoReason>
 
 // The info at an RVA, read whole: header, tail and every code. Refused with 40 to 45 and the slot at work.
 pub fn read_info(area: InfoArea<'_>, rva: Rva) -> Result<Info<'_>, InfoRefusal>
-    ensures { info_view result ≡ info_at area.entry.bytes.now area.entry.start.0 rva.0 }
+    ensures { info_view result ≡ info_in area.entry rva }
 {
     let info = locate(area, rva)?;
     info.codes().check()?;

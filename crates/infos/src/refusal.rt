@@ -1,6 +1,7 @@
 // Why an unwind info is refused.
-ghost use Rattle.std.specs.Prelude.{◌≡◌, None};
-ghost use Rattle.infos.specs.Refusals.{reason_number, info_fault, info_number, list_number};
+ghost use Rattle.std.specs.Prelude.{◌≡◌, Some, None};
+ghost use Rattle.std.specs.Option.{unwrap_or};
+ghost use Rattle.infos.specs.Refusals.{reason_number, fault_at, info_fault, info_number, list_number};
 ghost use Rattle.infos.specs.declared.refusal.ListRefusal.TheVariants.{BadInfo};
 
 use layout::refusal::Numbered;
@@ -34,9 +35,21 @@ pub const OUTSIDE_CODES: u16 = 65535;
 impl InfoRefusal {
     // The slot of the code at work, or OUTSIDE_CODES.
     pub fn slot_number(&self) -> u16
-        ensures { result ≡ (info_fault self.now).slot }
+        ensures { result ≡ unwrap_or self.now.slot 65535 }
     {
         self.slot.unwrap_or(OUTSIDE_CODES)
+    }
+}
+
+impl InfoReason {
+    // The refusal of a code at this slot.
+    pub(crate) fn at(self, slot: u16) -> InfoRefusal
+        ensures { info_fault result ≡ fault_at (Some slot) (reason_number self) }
+    {
+        InfoRefusal {
+            reason: self,
+            slot: Some(slot),
+        }
     }
 }
 

@@ -39,7 +39,7 @@ encoded_short wide Nop = omega arith
 encoded_short wide (Call d) = omega arith
 encoded_short wide Ret = omega arith
 
-bytes-short : (is : List Instruction) → length (bytes is) ≤ 8 * length is
+pub bytes-short : (is : List Instruction) → length (bytes is) ≤ 8 * length is
 unfolding bytes
 bytes-short [] = omega arith
 bytes-short (i ∷ is) =
@@ -52,7 +52,7 @@ bytes_more [] js = omega arith
 bytes_more (i ∷ is) js = omega (arith, length-append (encode i) (bytes (is ++ js)), length-append (encode i) (bytes is), bytes_more is js)
 
 -- how many instructions there are
-enter-count : (ss : List Step) → length (enter ss) ≡ length ss
+pub enter-count : (ss : List Step) → length (enter ss) ≡ length ss
 unfolding forward
 enter-count [] = refl
 enter-count (s ∷ ss) = omega (arith, enter-count ss)
@@ -62,18 +62,18 @@ unfolding work
 work-count starts at [] = refl
 work-count starts at (o ∷ os) = omega (arith, work-count starts (at + length (encode (operation_instruction starts at o))) os)
 
-backward-count : (g : Step → List Instruction) → ((s : Step) → length (g s) ≤ 1) → (ss : List Step) → length (backward g ss) ≤ length ss
+pub backward-count : (g : Step → List Instruction) → ((s : Step) → length (g s) ≤ 1) → (ss : List Step) → length (backward g ss) ≤ length ss
 unfolding backward
 backward-count g h [] = omega arith
 backward-count g h (s ∷ ss) = omega (arith, length-append (backward g ss) (g s), h s, backward-count g h ss)
 
-loading-count : (f : Option SetFrameStep) (s : Step) → length (loading f s) ≤ 1
+pub loading-count : (f : Option SetFrameStep) (s : Step) → length (loading f s) ≤ 1
 loading-count f (PushStep k) = omega arith
 loading-count f (AllocateStep k) = omega arith
 loading-count f (FrameStep k) = omega arith
 loading-count f (SaveStep k) = omega arith
 
-popping-count : (s : Step) → length (popping s) ≤ 1
+pub popping-count : (s : Step) → length (popping s) ≤ 1
 popping-count (PushStep k) = omega arith
 popping-count (AllocateStep k) = omega arith
 popping-count (FrameStep k) = omega arith

@@ -1,5 +1,5 @@
 // Which descriptions are accepted.
-ghost use Rattle.std.specs.Prelude.{◌≡◌, ℕ, ◌+◌, ◌^◌, ◌<◌, ◌≤◌, ◌&&◌, [], map, length, Ok, ◌==◌};
+ghost use Rattle.std.specs.Prelude.{◌≡◌, ◌+◌, ◌^◌, ◌<◌, ◌≤◌, ◌&&◌, [], map, length, ◌==◌};
 ghost use Rattle.plan.specs.Functions.{text_of, function_of, functions_of};
 ghost use Rattle.plan.specs.Refusals.{reason_number, told};
 ghost use Rattle.plan.specs.Steps.{step_of};
@@ -111,7 +111,8 @@ fn check_function(
     check_operations(functions, f.steps, operation, f.operations)
 }
 
-// 12 to 17 for each function.
+// 12 to 17 for each function. The index of a function's first step, or operation, is how many those before it have: it is carried
+// along here, and an iterator that gave it would carry it the same way.
 fn check_functions(plan: &Plan<'_>) -> Result<(), PlanRefusal>
     ensures { told result ≡ functions_verdict (length plan.now.functions.now) 0 0 0 (functions_of (text_of plan.now)) }
 {

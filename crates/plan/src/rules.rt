@@ -1,6 +1,6 @@
 // The rules for one step, by the steps before it, and for one operation. Whether the function calls and the steps before go
 // together here, but a struct of both would be made anew for each step.
-ghost use Rattle.std.specs.Prelude.{◌≡◌, ℕ, ◌≤◌, Bool, map, length};
+ghost use Rattle.std.specs.Prelude.{◌≡◌, map};
 ghost use Rattle.plan.specs.Refusals.{told_reason};
 ghost use Rattle.plan.specs.Rules.{known, repeated, in_order, slot_fits, number_fits, step_verdict, aligned, settable, operation_good};
 ghost use Rattle.plan.specs.Steps.{step_of};

@@ -1,5 +1,5 @@
 // What the steps of a function have and lay out together.
-ghost use Rattle.std.specs.Prelude.{◌≡◌, ℕ, ◌≤◌, map, length};
+ghost use Rattle.std.specs.Prelude.{◌≡◌, ◌≤◌, map, length};
 ghost use Rattle.std.specs.List.{list_any};
 ghost use Rattle.plan.specs.Steps.{step_of, keeps, pushes, frames, sets_frame, saves_at, other_than_push, pushed, block, frame};
 

@@ -61,7 +61,7 @@ fn two_functions(rt: HostRuntime) {
     let mut code = [0; 30];
     let mut infos = [0; 16];
     let mut table = [0; 24];
-    assert!(rt; answer(compile(&plan, &mut code, &mut infos, &mut table)) == 0);
+    assert!(rt; answer(compile(&plan, &mut code, &mut infos, &mut table)) == None);
     assert!(rt;
         code == [
             0x48, 0x83, 0xec, 0x28, 0xe8, 0x07, 0, 0, 0, 0x48, 0x83, 0xc4, 0x28, 0xc3, 0xcc, 0xcc,
@@ -84,11 +84,11 @@ fn short_buffers(rt: HostRuntime) {
     let mut code = [0xaa; 28];
     let mut infos = [0xaa; 16];
     let mut table = [0xaa; 12];
-    assert!(rt; answer(compile_worked(&mut code[..27], &mut infos, &mut table)) == 18);
-    assert!(rt; answer(compile_worked(&mut code, &mut infos[..15], &mut table)) == 18);
-    assert!(rt; answer(compile_worked(&mut code, &mut infos, &mut table[..11])) == 18);
+    assert!(rt; answer(compile_worked(&mut code[..27], &mut infos, &mut table)) == Some(18));
+    assert!(rt; answer(compile_worked(&mut code, &mut infos[..15], &mut table)) == Some(18));
+    assert!(rt; answer(compile_worked(&mut code, &mut infos, &mut table[..11])) == Some(18));
     assert!(rt; code == [0xaa; 28]);
     assert!(rt; infos == [0xaa; 16]);
     assert!(rt; table == [0xaa; 12]);
-    assert!(rt; answer(compile_worked(&mut code, &mut infos, &mut table)) == 0);
+    assert!(rt; answer(compile_worked(&mut code, &mut infos, &mut table)) == None);
 }

@@ -2,6 +2,7 @@
 use compile::compile::compile;
 use compile::lengths::Lengths;
 use layout::refusal::Numbered;
+use plan::refusal::PlanRefusal;
 use plan::text::{Counts, OperationRecord, Plan, StepRecord};
 
 pub fn step(kind: u8, register: u8, number: u32) -> StepRecord {
@@ -20,14 +21,11 @@ pub fn operation(kind: u8, first: u8, number: i32) -> OperationRecord {
     }
 }
 
-// The answer for one function into ample buffers: 0, or the refusal's number.
-pub fn number_of<'a>(steps: &'a [StepRecord], operations: &'a [OperationRecord]) -> u16 {
-    if steps.len() > 65535 || operations.len() > 65535 {
-        return 0;
-    }
+// The answer for one function into ample buffers: the refusal's number, or none where the plan is accepted.
+pub fn number_of<'a>(steps: &'a [StepRecord], operations: &'a [OperationRecord]) -> Option<u16> {
     let counts = [Counts {
-        steps: steps.len() as u16,
-        operations: operations.len() as u16,
+        steps: u16::try_from(steps.len()).unwrap_or(u16::MAX),
+        operations: u16::try_from(operations.len()).unwrap_or(u16::MAX),
     }];
     let plan = Plan {
         functions: &counts,
@@ -40,9 +38,6 @@ pub fn number_of<'a>(steps: &'a [StepRecord], operations: &'a [OperationRecord])
     answer(compile(&plan, &mut code, &mut infos, &mut table))
 }
 
-pub fn answer(r: Result<Lengths, plan::refusal::PlanRefusal>) -> u16 {
-    match r {
-        Ok(_) => 0,
-        Err(e) => e.number(),
-    }
+pub fn answer(r: Result<Lengths, PlanRefusal>) -> Option<u16> {
+    r.err().map(|e| e.number())
 }

@@ -1,10 +1,10 @@
 -- A compiled module is read back as what it was compiled from.
-use Rattle.std.proofs.Common.{◌≡◌, ℕ, suc, ◌+◌, ◌*◌, ◌/◌, ◌%◌, ◌^◌, ◌<◌, ◌≤◌, true, cond, ◌&&◌, leb, List, [], ◌∷◌, ◌++◌, map, length, take, drop, Ok, Err, Result, sym, refl, ap, ◌∙◌, arith}
+use Rattle.std.proofs.Common.{◌≡◌, ℕ, suc, ◌+◌, ◌*◌, ◌/◌, ◌%◌, ◌^◌, ◌<◌, ◌≤◌, true, cond, ◌&&◌, leb, List, [], ◌∷◌, ◌++◌, map, length, take, drop, None, Ok, Err, Result, sym, refl, ap, ◌∙◌, arith}
 use native.Mathlib.Nat.{mul-mod_right}
 use Rattle.std.proofs.lemmas.List.{length-map, length-take-le, length-drop, take_all, take_at, take-take, drop-take, take-append-drop}
 use Rattle.std.proofs.lemmas.Bool.{le-leb, lt-ltb, and_from, cond-true}
 use Rattle.infos.specs.Codes.{bind}
-use Rattle.infos.specs.Refusals.{InfoFault, fault_at, at_slot}
+use Rattle.infos.specs.Refusals.{InfoFault, fault_at, outside}
 use Rattle.plan.specs.Functions.{Text, Function, functions_in, functions_of}
 use Rattle.plan.specs.Layouts.{up, starts, code, infos, info_start, table, module_size}
 use Rattle.plan.specs.Steps.{step, block}
@@ -98,7 +98,7 @@ module _ (t : Text) (a : Accepted t) where
         ∙ reads_back info 4096 info [] fs a.good (omega arith) (page_even (length (code fs)))
 
     all-steps : module_steps m ≡ Ok (records_of fs)
-    all-steps = ap (λ v. bind (at_slot 65535 v) (λ _. read_steps m.area m.start m.entries)) verdict ∙ reads
+    all-steps = ap (λ v. bind (outside v) (λ _. read_steps m.area m.start m.entries)) verdict ∙ reads
 
     joint-is : joint (records_of fs) ≡ t.steps
     joint-is = joint_functions t.counts t.steps t.operations ∙ ap (λ n. take n t.steps) a.counted ∙ take_all (length t.steps) t.steps (omega arith)
@@ -113,7 +113,7 @@ module _ (t : Text) (a : Accepted t) where
     lengths = record { functions = length t.counts; steps = length t.steps }
 
     abbrev ended : ℕ → ℕ → List (List StepRecord) → Result Lengths InfoFault
-    ended functions steps rest = cond (leb (length rest) functions && leb (length (joint rest)) steps) (Ok (record { functions = length rest; steps = length (joint rest) })) (Err (fault_at 65535 22))
+    ended functions steps rest = cond (leb (length rest) functions && leb (length (joint rest)) steps) (Ok (record { functions = length rest; steps = length (joint rest) })) (Err (fault_at None 22))
 
     read_is : (functions steps : ℕ) → length t.counts ≤ functions → length t.steps ≤ steps → reading m functions steps ≡ Ok lengths
     read_is functions steps h g =

@@ -1,12 +1,12 @@
 -- The info of a function in an area, read back.
-use Rattle.std.proofs.Common.{◌≡◌, ℕ, ◌+◌, ◌-◌, ◌*◌, ◌/◌, ◌%◌, ◌<◌, ◌≤◌, Bool, false, cond, eqb, List, [], ◌∷◌, ◌++◌, map, length, take, Ok, Err, Option, Result, sym, refl, ap, ◌∙◌, ⊎_elim, arith}
+use Rattle.std.proofs.Common.{◌≡◌, ℕ, ◌+◌, ◌-◌, ◌*◌, ◌/◌, ◌%◌, ◌<◌, ◌≤◌, Bool, false, cond, eqb, List, [], ◌∷◌, ◌++◌, map, length, take, None, Ok, Err, Option, Result, sym, refl, ap, ◌∙◌, ⊎_elim, arith}
 use native.Mathlib.Nat.{add-mul-mod_self_left}
 use Rattle.std.proofs.lemmas.List.{append_assoc, length-append, drop_at, take_at}
 use Rattle.std.proofs.lemmas.Bool.{le-leb, eq-eqb, and_from, cond-true, cond-false, cases_eq, ne_eqb}
 use Rattle.steps.specs.declared.set_frame.SetFrameStep.{SetFrameStep}
 use Rattle.infos.specs.Codes.{bind}
 use Rattle.infos.specs.Infos.{InfoOf, nothing, padded, header_in, located, info_at}
-use Rattle.infos.specs.Refusals.{InfoFault, fault_at, at_slot}
+use Rattle.infos.specs.Refusals.{InfoFault, fault_at, outside}
 use Rattle.infos.specs.Sequences.{codes_of}
 use Rattle.infos.specs.declared.code.Code.{Code}
 use Rattle.plan.specs.Bodies.{bytes, enter}
@@ -111,10 +111,10 @@ module _ (ss : List Step) (h : Fines (frame ss) false ss) where
 
     info-own : info_at area start rva ≡ Ok (own (rva - start))
     info-own =
-        ap (λ r. bind (at_slot 65535 r) (λ i. bind (codes_of i.prologue i.frame_register i.slots) (λ _. Ok i))) located-own ∙ codes_own (rva - start) (codes_of prologue (frame_number f) cs) (steps_own (rva - start))
+        ap (λ r. bind (outside r) (λ i. bind (codes_of i.prologue i.frame_register i.slots) (λ _. Ok i))) located-own ∙ codes_own (rva - start) (codes_of prologue (frame_number f) cs) (steps_own (rva - start))
 
     pub steps_back : (e : Entry) → e.info.0 ≡ rva → function_steps area start e ≡ Ok (map record_of ss)
     steps_back e is =
-        ap (λ q. bind (info_at area start q) (λ i. cond (eqb i.flags 0) (steps_in i) (Err (fault_at 65535 42)))) is
-        ∙ ap (λ r. bind r (λ i. cond (eqb i.flags 0) (steps_in i) (Err (fault_at 65535 42)))) info-own
+        ap (λ q. bind (info_at area start q) (λ i. cond (eqb i.flags 0) (steps_in i) (Err (fault_at None 42)))) is
+        ∙ ap (λ r. bind r (λ i. cond (eqb i.flags 0) (steps_in i) (Err (fault_at None 42)))) info-own
         ∙ steps_own (rva - start)

@@ -1,5 +1,5 @@
 -- The loops over codes and entries, step by step.
-use Rattle.std.proofs.Common.{◌≡◌, ℕ, ◌+◌, ◌<◌, ◌≤◌, Bool, true, false, cond, eqb, List, [], ◌∷◌, ◌++◌, map, length, get_or, take, drop, set, is_ok, Ok, Err, Result, sym, refl, ap, ◌∙◌, arith}
+use Rattle.std.proofs.Common.{◌≡◌, ℕ, ◌+◌, ◌<◌, ◌≤◌, Bool, true, false, cond, eqb, List, [], ◌∷◌, ◌++◌, map, length, get_or, take, drop, set, is_ok, None, Ok, Err, Result, sym, refl, ap, ◌∙◌, arith}
 use Rattle.std.proofs.lemmas.List.{append-nil, append_assoc, length_push, length-append, take_more, set_at, length-take-le, at_drop_more, at_drop_all, take_at, drop_at, drop-drop}
 use Rattle.std.proofs.lemmas.Bool.{false≢true}
 use Rattle.infos.specs.Codes.{bind}
@@ -174,13 +174,13 @@ write_more p old ss at l =
     ap (λ f. f ++ (ss ++ drop (at + length ss) (p ++ drop at old))) (take_at p (drop at old) at l) ∙ ap (λ r. p ++ (ss ++ r)) rest ∙ sym (append_assoc p ss (drop (at + length ss) old))
 
 -- a function with steps has no flags
-flagless : (b : Bool) (r : Steps) → is_ok (cond b r (Err (fault_at 65535 42))) ≡ true → cond b r (Err (fault_at 65535 42)) ≡ r
+flagless : (b : Bool) (r : Steps) → is_ok (cond b r (Err (fault_at None 42))) ≡ true → cond b r (Err (fault_at None 42)) ≡ r
 flagless true r k = refl
 flagless false r k = absurd (false≢true k)
 
 pub function_is : (area : List ℕ) (start : ℕ) (e : Entry) (i : InfoOf) → Ok i ≡ info_at area start e.info.0 → is_ok (function_steps area start e) ≡ true → function_steps area start e ≡ steps_in i
 function_is area start e i h k =
-    let g : InfoOf → Steps = λ j. cond (eqb j.flags 0) (steps_in j) (Err (fault_at 65535 42)) in
+    let g : InfoOf → Steps = λ j. cond (eqb j.flags 0) (steps_in j) (Err (fault_at None 42)) in
     let same : function_steps area start e ≡ g i = ap (λ r. bind r g) (sym h) in
     same ∙ flagless (eqb i.flags 0) (steps_in i) (sym (ap is_ok same) ∙ k)
 

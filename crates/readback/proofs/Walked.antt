@@ -93,7 +93,7 @@ module _ (all : Result (List Code) InfoFault) (f : Option SetFrameStep) where
       let long : 2 ≤ length (step_code end s ++ tail) = omega (arith, length-append (step_code end s) tail, d.size, d.some) in
       let free : (sets_frame s ≡ true → (w.progress.frame_set ≡ false) × (eqb frame 0 ≡ false)) =
       λ e. (w.set ∙ once f ss (subst (λ u. Fines f u ss) (or_true used (sets_frame s) e) h.2), named f used s h.0 h.1 e) in
-      let more = step w.left long new d.used c d.some (ap (at_slot w.slot) d.is) (ap (at_slot w.slot) (admits frame w.progress w.slot end s w.limit free)) in
+      let more = step w.left long new d.used c d.some (ap (at_slot (Some w.slot)) d.is) (ap (at_slot (Some w.slot)) (admits frame w.progress w.slot end s w.limit free)) in
       record {
         progress = new;
         slot = w.slot + d.used;

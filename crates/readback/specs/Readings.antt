@@ -1,8 +1,8 @@
 -- What the unwind infos of a module say of its functions' prologues.
-use Rattle.std.specs.Prelude.{ℕ, cond, ◌&&◌, List, [], ◌∷◌, ◌++◌, map, length, drop, Ok, Err, Result, ◌==◌, nat_le}
+use Rattle.std.specs.Prelude.{ℕ, cond, ◌&&◌, List, [], ◌∷◌, ◌++◌, map, length, drop, Some, None, Ok, Err, Result, ◌==◌, nat_le}
 use Rattle.infos.specs.Codes.{bind}
 use Rattle.infos.specs.Infos.{InfoOf, info_at}
-use Rattle.infos.specs.Refusals.{InfoFault, fault_at, at_slot}
+use Rattle.infos.specs.Refusals.{InfoFault, fault_at, outside}
 use Rattle.infos.specs.Sequences.{codes_of}
 use Rattle.infos.specs.declared.code.Code.{Code}
 use Rattle.infos.specs.declared.code.Operation.{Operation}
@@ -11,6 +11,7 @@ use Rattle.plan.specs.Steps.{step}
 use Rattle.plan.specs.declared.text.Counts.{Counts}
 use Rattle.plan.specs.declared.text.StepRecord.{StepRecord}
 use Rattle.tables.specs.Modules.{module_verdict}
+use Rattle.tables.specs.declared.area.InfoArea.{InfoArea}
 use Rattle.tables.specs.declared.entry.Entry.{Entry}
 use Rattle.tables.specs.declared.module.Module.{Module}
 use Rattle.readback.specs.declared.read.Lengths.{Lengths}
@@ -22,7 +23,7 @@ step_by frame_register frame_offset slot (Push r) = Ok (step 0 r 0)
 step_by frame_register frame_offset slot (Allocate n) = Ok (step 1 0 n)
 step_by frame_register frame_offset slot SetFrame = Ok (step 2 frame_register frame_offset)
 step_by frame_register frame_offset slot (Save r o) = Ok (step 3 r o)
-step_by frame_register frame_offset slot (SaveXmm r o) = Err (fault_at slot 43)
+step_by frame_register frame_offset slot (SaveXmm r o) = Err (fault_at (Some slot) 43)
 
 abbrev pub step_of_code : ℕ → ℕ → Code → Result StepRecord InfoFault
 step_of_code frame_register frame_offset c = step_by frame_register frame_offset c.slot c.operation
@@ -42,12 +43,19 @@ steps_in i = bind (codes_in i) (steps_of_codes i.frame_register i.frame_offset)
 
 -- an entry's steps: 40 to 45 where its info is none, 42 where it has flags
 abbrev pub function_steps : List ℕ → ℕ → Entry → Result (List StepRecord) InfoFault
-function_steps area start e = bind (info_at area start e.info.0) (λ i. cond (i.flags == 0) (steps_in i) (Err (fault_at 65535 42)))
+function_steps area start e = bind (info_at area start e.info.0) (λ i. cond (i.flags == 0) (steps_in i) (Err (fault_at None 42)))
 
 -- the steps of each entry's function; the first refusal is the answer
 unfoldable pub read_steps : List ℕ → ℕ → List Entry → Result (List (List StepRecord)) InfoFault
 read_steps area start [] = Ok []
 read_steps area start (e ∷ es) = bind (function_steps area start e) (λ ss. bind (read_steps area start es) (λ rest. Ok (ss ∷ rest)))
+
+-- these two, of an area as a struct
+abbrev pub function_steps_in : InfoArea → Entry → Result (List StepRecord) InfoFault
+function_steps_in area e = function_steps area.bytes.now area.start.0 e
+
+abbrev pub read_steps_in : InfoArea → List Entry → Result (List (List StepRecord)) InfoFault
+read_steps_in area es = read_steps area.bytes.now area.start.0 es
 
 -- the steps of functions, one function after another
 unfoldable pub joint : List (List StepRecord) → List StepRecord
@@ -82,7 +90,7 @@ module_view m = record { base = m.extent.base.0; size = m.extent.size; entries =
 
 -- each function's steps: 35 and 36 for the module first
 abbrev pub module_steps : ModuleOf → Result (List (List StepRecord)) InfoFault
-module_steps m = bind (at_slot 65535 (module_verdict m.base m.size m.entries)) (λ _. read_steps m.area m.start m.entries)
+module_steps m = bind (outside (module_verdict m.base m.size m.entries)) (λ _. read_steps m.area m.start m.entries)
 
 -- how many functions and steps are read; last 22 where the records are too few
 abbrev pub reading : ModuleOf → ℕ → ℕ → Result Lengths InfoFault
@@ -90,7 +98,7 @@ reading m functions steps =
     bind (module_steps m) (λ rest.
     cond (nat_le (length rest) functions && nat_le (length (joint rest)) steps)
     (Ok (record { functions = length rest; steps = length (joint rest) }))
-    (Err (fault_at 65535 22)))
+    (Err (fault_at None 22)))
 
 -- the records of functions and of steps after that
 abbrev pub functions_after : ModuleOf → List Counts → Result Lengths ReadRefusal → List Counts

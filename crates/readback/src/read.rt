@@ -2,7 +2,7 @@
 ghost use Rattle.std.specs.Prelude.{◌≡◌, ◌+◌, ◌≤◌, true, ◌++◌, map, length, take, drop, is_ok, IfOk};
 ghost use Rattle.readback.specs.Laws.{CompiledBack};
 ghost use Rattle.readback.specs.Refusals.{told};
-ghost use Rattle.readback.specs.Readings.{function_steps, read_steps, joint, joint_count, counted_in, found, counts_of, module_view, reading, functions_after, steps_after};
+ghost use Rattle.readback.specs.Readings.{function_steps_in, read_steps_in, joint, joint_count, counted_in, found, counts_of, module_view, reading, functions_after, steps_after};
 
 use crate::refusal::ReadRefusal;
 use crate::step::{count_steps, write_steps};
@@ -21,7 +21,7 @@ pub struct Lengths {
 
 // How many steps an entry's function has.
 fn check_function(area: InfoArea<'_>, entry: Entry) -> Result<usize, ReadRefusal>
-    ensures value { told result ≡ counted_in (function_steps area.entry.bytes.now area.entry.start.0 entry) }
+    ensures value { told result ≡ counted_in (function_steps_in area.entry entry) }
     ensures bound { IfOk result (λ n. n ≤ 255) }
 {
     let info = read_info(area, entry.info)?;
@@ -34,7 +34,7 @@ fn check_function(area: InfoArea<'_>, entry: Entry) -> Result<usize, ReadRefusal
 // How many steps the functions of all entries have.
 fn check_functions(area: InfoArea<'_>, entries: &[Entry]) -> Result<usize, ReadRefusal>
     requires { length entries.now ≤ 65536 }
-    ensures { told result ≡ joint_count (read_steps area.entry.bytes.now area.entry.start.0 entries.now) }
+    ensures { told result ≡ joint_count (read_steps_in area.entry entries.now) }
 {
     let mut steps = 0;
     for entry in entries {
@@ -45,17 +45,13 @@ fn check_functions(area: InfoArea<'_>, entries: &[Entry]) -> Result<usize, ReadR
 
 // Writes the steps of an entry's function from `at` on, and answers how many there are.
 fn write_function(area: InfoArea<'_>, entry: Entry, records: &mut [StepRecord], at: usize) -> usize
-    requires { (is_ok (function_steps area.bytes.now area.start.0 entry) ≡ true) × (at + length (found (function_steps area.bytes.now area.start.0 entry)) ≤ length records.old) }
-    ensures after { records.new ≡ take at records.old ++ (found (function_steps area.entry.bytes.now area.entry.start.0 entry) ++ drop (at + length (found (function_steps area.entry.bytes.now area.entry.start.0 entry))) records.old) }
-    ensures count { result ≡ length (found (function_steps area.entry.bytes.now area.entry.start.0 entry)) }
+    requires { (is_ok (function_steps_in area entry) ≡ true) × (at + length (found (function_steps_in area entry)) ≤ length records.old) }
+    ensures after { records.new ≡ take at records.old ++ (found (function_steps_in area.entry entry) ++ drop (at + length (found (function_steps_in area.entry entry))) records.old) }
+    ensures count { result ≡ length (found (function_steps_in area.entry entry)) }
     ensures bound { result ≤ 255 }
 {
-    let Ok(info) = read_info(area, entry.info) else {
-        return 0;
-    };
-    let Ok(n) = count_steps(&info) else {
-        return 0;
-    };
+    let info = read_info(area, entry.info).unwrap();
+    let n = count_steps(&info).unwrap();
     write_steps(&info, records, at + n);
     n
 }
@@ -67,9 +63,9 @@ fn write_functions(
     functions: &mut [Counts],
     steps: &mut [StepRecord],
 )
-    requires { (is_ok (read_steps area.bytes.now area.start.0 entries.now) ≡ true) × ((length entries.now ≤ length functions.old) × (length (joint (found (read_steps area.bytes.now area.start.0 entries.now))) ≤ length steps.old)) }
-    ensures functions { functions.new ≡ map counts_of (found (read_steps area.entry.bytes.now area.entry.start.0 entries.now)) ++ drop (length entries.now) functions.old }
-    ensures steps { steps.new ≡ joint (found (read_steps area.entry.bytes.now area.entry.start.0 entries.now)) ++ drop (length (joint (found (read_steps area.entry.bytes.now area.entry.start.0 entries.now)))) steps.old }
+    requires { (is_ok (read_steps_in area entries.now) ≡ true) × ((length entries.now ≤ length functions.old) × (length (joint (found (read_steps_in area entries.now))) ≤ length steps.old)) }
+    ensures functions { functions.new ≡ map counts_of (found (read_steps_in area.entry entries.now)) ++ drop (length entries.now) functions.old }
+    ensures steps { steps.new ≡ joint (found (read_steps_in area.entry entries.now)) ++ drop (length (joint (found (read_steps_in area.entry entries.now)))) steps.old }
 {
     let mut at = 0;
     // After `iter_mut().zip(..)` a proof knows nothing of the counts.

@@ -9,8 +9,8 @@ use Rattle.layout.proofs.Cursors.{length-overwritten}
 use Rattle.layout.proofs.Words.{word_back, length-le_bytes}
 use Rattle.x64.specs.declared.instruction.Instruction.TheVariants.{Push, SubRsp, LeaAtRsp, StoreAtRsp}
 use Rattle.cpu.specs.Effects.{below, moved, signed}
-use Rattle.cpu.specs.Performance.{holds_word, settles}
-use Rattle.steps.specs.Kinds.{undo_push, undo_allocate, undo_frame, undo_save}
+use Rattle.cpu.specs.Performance.{settles}
+use Rattle.steps.specs.Kinds.{readable, undo_push, undo_allocate, undo_frame, undo_save}
 use Rattle.cpu.specs.Processors.{State}
 use Rattle.steps.specs.States.{value, rsp, word, after, allowed, Sixteen, GivesBack, Later}
 
@@ -50,7 +50,7 @@ module _ (r : ℕ) (s : State) (p : preserved r ≡ true) (l : r < 16) (k : Sixt
 
   pushed_word : word (after (Push r) s) (below (rsp s)) ≡ value s r
   pushed_word =
-      let parts = and_parts (holds_word s.low (length s.stack) (below (rsp s))) (settles s.low (length s.stack) (below (rsp s))) ok in
+      let parts = and_parts (readable s (below (rsp s))) (settles s.low (length s.stack) (below (rsp s))) ok in
       let held = and_parts (nat_le s.low (below (rsp s))) (nat_le (below (rsp s) + 8) (s.low + length s.stack)) parts.0 in
       let a : s.low ≤ below (rsp s) = leb-true _ _ held.0 in
       let b : below (rsp s) + 8 ≤ s.low + length s.stack = leb-true _ _ held.1 in
@@ -93,18 +93,18 @@ module _ (n : ℕ) (s : State) (small : n < 2 ^ 31) (k : Sixteen s) (room : n �
 
 -- a set-frame, undone later
 module _ (f o : ℕ) (s : State) (p : preserved f ≡ true) (l : f < 16) (small : o < 2 ^ 31) (k : Sixteen s) (room : rsp s + o < 2 ^ 64) where
-  framed : List ℕ
+  abbrev framed : List ℕ
   framed = slice_set s.registers.integer f (moved (rsp s) o)
 
   frame_value : value (after (LeaAtRsp f o) s) f ≡ rsp s + o
   frame_value =
       let plain : signed o ≡ o = cond-true _ _ _ (lt-ltb o (2 ^ 31) small) in
-      get_or-set_other (slice_set s.registers.integer f (moved (rsp s) o)) 4 f (rsp s) 0 (not_rsp f p) ∙ get_or-set_same s.registers.integer f (moved (rsp s) o) 0 (omega (arith, k.0)) ∙ ap (λ d. (rsp s + d) % 2 ^ 64) plain ∙ omega arith
+      get_or-set_other framed 4 f (rsp s) 0 (not_rsp f p) ∙ get_or-set_same s.registers.integer f (moved (rsp s) o) 0 (omega (arith, k.0)) ∙ ap (λ d. (rsp s + d) % 2 ^ 64) plain ∙ omega arith
 
   framed_rsp : rsp (after (LeaAtRsp f o) s) ≡ rsp s
   framed_rsp =
-      let four : 4 < length (slice_set s.registers.integer f (moved (rsp s) o)) = simp length-set (omega (arith, k.0)) in
-      get_or-set_same (slice_set s.registers.integer f (moved (rsp s) o)) 4 (rsp s) 0 four
+      let four : 4 < length framed = simp length-set (omega (arith, k.0)) in
+      get_or-set_same framed 4 (rsp s) 0 four
 
   pub frame_restores : (t : State) (lost : ℕ → Bool) → lost f ≡ false → Later lost (after (LeaAtRsp f o) s) t → GivesBack (λ q. (q == f) || lost q) s (undo_frame f o t)
   frame_restores t lost keeps later =
@@ -116,7 +116,7 @@ module _ (f o : ℕ) (s : State) (p : preserved f ≡ true) (l : f < 16) (small 
             let apart : ((q == f) ≡ false) × (lost q ≡ false) = or_parts (q == f) (lost q) lq in
             let other : q ≢ f = eqb-false q f apart.0 in
             get_or-set_other t.registers.integer 4 q (value t f - o) 0 ne ∙ later.4 q pq apart.1
-            ∙ get_or-set_other (slice_set s.registers.integer f (moved (rsp s) o)) 4 q (rsp s) 0 ne ∙ get_or-set_other s.registers.integer f q (moved (rsp s) o) 0 other,
+            ∙ get_or-set_other framed 4 q (rsp s) 0 ne ∙ get_or-set_other s.registers.integer f q (moved (rsp s) o) 0 other,
       )
 
 -- a later state shows the words above RSP that were there
@@ -139,7 +139,7 @@ module _ (r o : ℕ) (s : State) (p : preserved r ≡ true) (l : r < 16) (small 
 
   areas : (s.low ≤ moved (rsp s) o) × (moved (rsp s) o + 8 ≤ s.low + length s.stack) × (s.low ≤ rsp s)
   areas =
-      let parts = and_parts (holds_word s.low (length s.stack) (moved (rsp s) o)) (settles s.low (length s.stack) (rsp s)) ok in
+      let parts = and_parts (readable s (moved (rsp s) o)) (settles s.low (length s.stack) (rsp s)) ok in
       let held = and_parts (nat_le s.low (moved (rsp s) o)) (nat_le (moved (rsp s) o + 8) (s.low + length s.stack)) parts.0 in
       let stands = and_parts (nat_le s.low (rsp s)) (nat_le (rsp s) (s.low + length s.stack)) parts.1 in
       (leb-true _ _ held.0, leb-true _ _ held.1, leb-true _ _ stands.0)

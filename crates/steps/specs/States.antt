@@ -5,7 +5,7 @@ use Rattle.layout.specs.Words.{le_at}
 use Rattle.x64.specs.Encodings.{encode}
 use Rattle.x64.specs.declared.instruction.Instruction.{Instruction}
 use Rattle.cpu.specs.Effects.{register_value, intended}
-use Rattle.cpu.specs.Performance.{permitted, performed}
+use Rattle.cpu.specs.Performance.{permitted_in, performed}
 use Rattle.cpu.specs.Processors.{State}
 
 abbrev pub value : State → ℕ → ℕ
@@ -23,7 +23,7 @@ abbrev pub after : Instruction → State → State
 after i s = performed (intended i (length (encode i)) s.registers) s
 
 abbrev pub allowed : Instruction → State → Bool
-allowed i s = permitted (intended i (length (encode i)) s.registers) s.low (length s.stack)
+allowed i s = permitted_in (intended i (length (encode i)) s.registers) s
 
 -- sixteen registers of 64 bits
 abbrev pub Sixteen : State → Type 0

@@ -1,5 +1,5 @@
 // Allocate a block.
-ghost use Rattle.std.specs.Prelude.{◌≡◌, ◌%◌, ◌<◌, ◌≤◌, true, false};
+ghost use Rattle.std.specs.Prelude.{◌≡◌, ◌%◌, ◌≤◌, true, false};
 ghost use Rattle.std.proofs.Common.{◌∙◌, arith};
 ghost use Rattle.x64.specs.declared.instruction.Instruction.TheVariants.{SubRsp};
 ghost use Rattle.steps.specs.Kinds.{undo_allocate, can_undo_allocate, allocate_code};

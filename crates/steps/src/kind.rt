@@ -1,6 +1,6 @@
 // What every kind of step gives: its instruction and so its effect and bytes, its undoing, its unwind code, and the law
 // between effect and undoing.
-ghost use Rattle.std.specs.Prelude.{◌≡◌, ℕ, ◌+◌, ◌≤◌, Bool, true, false, ◌||◌, List, length, is_ok, if◌then◌else◌};
+ghost use Rattle.std.specs.Prelude.{◌≡◌, ℕ, Bool, true, false, ◌||◌, List, is_ok, if◌then◌else◌};
 ghost use Rattle.layout.specs.Cursors.{HasRoom, wrote};
 ghost use Rattle.x64.specs.Encodings.{encode};
 ghost use Rattle.x64.specs.declared.instruction.Instruction.{Instruction};

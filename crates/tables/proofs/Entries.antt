@@ -67,9 +67,6 @@ entries-next bs h =
     let n : length bs / 12 ≡ suc (length (drop 12 bs) / 12) = omega (arith, length-drop 12 bs) in
     rw n (ap (λ es. entry_at bs 0 ∷ es) (later_entries bs 0 (length (drop 12 bs) / 12)))
 
-pub entries-none : (bs : List ℕ) → length bs < 12 → entries_of bs (length bs / 12) ≡ []
-entries-none bs h = let z : length bs / 12 ≡ 0 = omega arith in rw z refl
-
 -- what the bytes of a table give
 pub table_gives : (bs : List ℕ) (t : TableEntries) → t.bytes.now ≡ bs → AlwaysYields (YieldsFirst entries_left) (λ e. e) t (entries_of bs (length bs / 12))
 table_gives bs t e = (YieldsList-from_first (λ e. e) entries_left _ (ap (λ b. entries_of b (length b / 12)) e)).runs

@@ -1,5 +1,5 @@
 // Loading a table: its bytes into the caller's entry records.
-ghost use Rattle.std.specs.Prelude.{◌≡◌, ℕ, ◌/◌, ◌≤◌, ◌++◌, length, drop};
+ghost use Rattle.std.specs.Prelude.{◌≡◌, ◌/◌, ◌≤◌, ◌++◌, length, drop};
 ghost use Rattle.std.specs.Result.{result_map_both};
 ghost use Rattle.tables.specs.Entries.{entries_of};
 ghost use Rattle.tables.specs.Modules.{loading, loaded};

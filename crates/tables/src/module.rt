@@ -1,5 +1,5 @@
 // A module: where it lies, its entries, and the area that holds its unwind infos.
-ghost use Rattle.std.specs.Prelude.{◌≡◌, ℕ, ◌≤◌, true, IfSome};
+ghost use Rattle.std.specs.Prelude.{◌≡◌, ◌≤◌, true, IfSome};
 ghost use Rattle.std.specs.Result.{result_map_both};
 ghost use Rattle.records.specs.Spans.{ascending};
 ghost use Rattle.tables.specs.Entries.{entry_first, entry_last, entry_holding};

@@ -1,5 +1,5 @@
 // The worked function.
-ghost use Rattle.std.specs.Prelude.{◌≡◌, ℕ, length, is_ok, if◌then◌else◌, Ok};
+ghost use Rattle.std.specs.Prelude.{◌≡◌, length, is_ok, if◌then◌else◌, Ok};
 ghost use Rattle.layout.specs.Words.{overwritten};
 ghost use Rattle.plan.specs.Refusals.{told};
 ghost use Rattle.plan.specs.Verdicts.{plan_verdict};

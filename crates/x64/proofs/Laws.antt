@@ -1,7 +1,7 @@
 -- The laws between encoding and decoding.
 use Rattle.std.proofs.Common.{◌≡◌, ℕ, ◌+◌, ◌-◌, ◌*◌, ◌/◌, ◌%◌, ◌^◌, ◌<◌, ◌≤◌, Bool, true, false, cond, not, ◌&&◌, eqb, ltb, ◌≢◌, List, [], ◌∷◌, ◌++◌, length, Some, None, Option, sym, refl, ap, ◌∙◌, inr, ⊎_elim, arith}
 use Rattle.std.proofs.lemmas.Bool.{and_parts, ltb-true, le-leb, lt-ltb, le-ltb, ne_eqb, eqb-false, not-true, cases_lt, cond-true, cond-false, true≢false}
-use Rattle.x64.specs.Decodings.{ending, formed, plain, upper_plain, rsp_form, set_form, set_in, at_rsp_form, at_frame_form, decoded}
+use Rattle.x64.specs.Decodings.{ending, formed, push_or_pop, plain, rsp_form, set_form, set_in, at_rsp_form, at_frame_form, decoded}
 use Rattle.x64.specs.Encodings.{high, short, four, spelled, nameable, addressing, encode_as, one_register, on_rsp, at_rsp, at_frame}
 use Rattle.x64.specs.Laws.{DecodesBack, EncodesApart}
 use Rattle.x64.specs.declared.instruction.Instruction.{Instruction}
@@ -16,28 +16,29 @@ named r w = let p = and_parts (ltb r 16) (not (eqb r 4)) w in (ltb-true r 16 p.0
 based : (q : ℕ) → addressing q ≡ true → (q < 16) × (q % 8 ≢ 4)
 based q w = let p = and_parts (ltb q 16) (not (eqb (q % 8) 4)) w in (ltb-true q 16 p.0, eqb-false (q % 8) 4 (not-true (eqb (q % 8) 4) p.1))
 
-plain_push : (b : ℕ) → 80 ≤ b → b < 88 → b ≢ 84 → plain b ≡ Some (Push (b - 80))
-plain_push b l h n = rw (ne_eqb b 144 (λ e. absurd (omega arith)), ne_eqb b 195 (λ e. absurd (omega arith)), le-leb 80 b l, lt-ltb b 88 h, ne_eqb b 84 n)
+push_is : (first b : ℕ) → 80 ≤ b → b < 88 → push_or_pop first b ≡ Some (Push (first + (b - 80)))
+push_is first b l h = rw (le-leb 80 b l, lt-ltb b 88 h)
 
-plain_pop : (b : ℕ) → 88 ≤ b → b < 96 → b ≢ 92 → plain b ≡ Some (Pop (b - 88))
-plain_pop b l h n = rw (ne_eqb b 144 (λ e. absurd (omega arith)), ne_eqb b 195 (λ e. absurd (omega arith)), le-leb 80 b (omega arith), le-ltb b 88 l, le-leb 88 b l, lt-ltb b 96 h, ne_eqb b 92 n)
+pop_is : (first b : ℕ) → 88 ≤ b → b < 96 → push_or_pop first b ≡ Some (Pop (first + (b - 88)))
+pop_is first b l h = rw (le-leb 80 b (omega arith), le-ltb b 88 l, le-leb 88 b l, lt-ltb b 96 h)
 
-upper_push : (b : ℕ) → 80 ≤ b → b < 88 → upper_plain b ≡ Some (Push (b - 80 + 8))
-upper_push b l h = let n : b - 72 ≡ b - 80 + 8 = omega arith in rw (le-leb 80 b l, lt-ltb b 88 h, n)
-
-upper_pop : (b : ℕ) → 88 ≤ b → b < 96 → upper_plain b ≡ Some (Pop (b - 88 + 8))
-upper_pop b l h = let n : b - 80 ≡ b - 88 + 8 = omega arith in rw (le-leb 80 b (omega arith), le-ltb b 88 l, le-leb 88 b l, lt-ltb b 96 h, n)
+-- a byte of a push or pop of a lower register, but for RSP
+plain_is : (b : ℕ) → b < 96 → b ≢ 84 → b ≢ 92 → plain b ≡ push_or_pop 0 b
+plain_is b h m n = rw (ne_eqb b 144 (λ e. absurd (omega arith)), ne_eqb b 195 (λ e. absurd (omega arith)), ne_eqb b 84 m, ne_eqb b 92 n)
 
 -- push or pop: an operation whose eight bytes read as one kind of instruction
 module _ (op : ℕ) (make : ℕ → Instruction) (low_end : 80 ≤ op) (high_end : op ≤ 88)
-    (lower : (b : ℕ) → op ≤ b → b < op + 8 → b ≢ op + 4 → plain b ≡ Some (make (b - op)))
-    (upper : (b : ℕ) → op ≤ b → b < op + 8 → upper_plain b ≡ Some (make (b - op + 8)))
+    (rsp : (b : ℕ) → op ≤ b → b < op + 8 → b ≢ op + 4 → (b ≢ 84) × (b ≢ 92))
+    (made : (first b : ℕ) → op ≤ b → b < op + 8 → push_or_pop first b ≡ Some (make (first + (b - op))))
     (r : ℕ) (rest : List ℕ) (w : nameable r ≡ true) where
+  lower : (b : ℕ) → op ≤ b → b < op + 8 → b ≢ op + 4 → plain b ≡ Some (make (0 + (b - op)))
+  lower b l h n = plain_is b (omega arith) (rsp b l h n).0 (rsp b l h n).1 ∙ made 0 b l h
+
   small : r < 8 → decoded (one_register op r ++ rest) ≡ Some (make r, length (one_register op r))
   small h =
       let n : r ≢ 4 = eqb-false r 4 (named r w).1 in
       let b : ℕ = op + r % 8 in
-      let is : b - op ≡ r = omega arith in
+      let is : 0 + (b - op) ≡ r = omega arith in
       let shape : one_register op r ≡ b ∷ [] = cond-true _ _ _ (lt-ltb r 8 h) in
       ap (λ l. decoded (l ++ rest)) shape ∙ by_plain (b ∷ rest) (λ e. absurd (omega arith)) (λ e. absurd (omega arith)) (inr (omega arith))
       ∙ ap (λ i. ending i 1) (lower b (omega arith) (omega arith) (λ e. n (omega arith))) ∙ ap (λ q. Some (make q, 1)) is ∙ ap (λ l. Some (make r, length l)) (sym shape)
@@ -46,10 +47,10 @@ module _ (op : ℕ) (make : ℕ → Instruction) (low_end : 80 ≤ op) (high_end
   large h =
       let l : r < 16 = (named r w).0 in
       let b : ℕ = op + r % 8 in
-      let is : b - op + 8 ≡ r = omega arith in
+      let is : 8 + (b - op) ≡ r = omega arith in
       let shape : one_register op r ≡ 65 ∷ b ∷ [] = cond-false _ _ _ (le-ltb r 8 h) in
       ap (λ l. decoded (l ++ rest)) shape ∙ by_upper (65 ∷ b ∷ rest) refl
-      ∙ ap (λ i. ending i 2) (upper b (omega arith) (omega arith)) ∙ ap (λ q. Some (make q, 2)) is ∙ ap (λ l. Some (make r, length l)) (sym shape)
+      ∙ ap (λ i. ending i 2) (made 8 b (omega arith) (omega arith)) ∙ ap (λ q. Some (make q, 2)) is ∙ ap (λ l. Some (make r, length l)) (sym shape)
 
   register_back : decoded (one_register op r ++ rest) ≡ Some (make r, length (one_register op r))
   register_back = ⊎_elim small large (cases_lt r 8)
@@ -94,8 +95,8 @@ at_frame_back op r q d wide rest i a b c is l w h f =
     frame_access op d wide rest a b c h f r q l (based q w).0 (based q w).1 ∙ ap (λ x. ending x (3 + length (spelled wide d))) is ∙ ap (λ n. Some (i, n)) long
 
 pub decodes_back : DecodesBack
-decodes_back (Push r) wide rest w f = register_back 80 Push (omega arith) (omega arith) plain_push upper_push r rest w
-decodes_back (Pop r) wide rest w f = register_back 88 Pop (omega arith) (omega arith) plain_pop upper_pop r rest w
+decodes_back (Push r) wide rest w f = register_back 80 Push (omega arith) (omega arith) (λ b l h n. (n, λ e. absurd (omega arith))) push_is r rest w
+decodes_back (Pop r) wide rest w f = register_back 88 Pop (omega arith) (omega arith) (λ b l h n. (λ e. absurd (omega arith), n)) pop_is r rest w
 decodes_back (SubRsp d) wide rest w f = rsp_back 236 d SubRsp refl rest (ltb-true d (2 ^ 32) w) wide f
 decodes_back (AddRsp d) wide rest w f = rsp_back 196 d AddRsp refl rest (ltb-true d (2 ^ 32) w) wide f
 decodes_back (StoreAtRsp r d) wide rest w f = let p = and_parts (nameable r) (ltb d (2 ^ 32)) w in at_rsp_back 137 r d wide rest (StoreAtRsp r d) refl refl refl (λ e. rw e) p.0 (ltb-true d (2 ^ 32) p.1) f

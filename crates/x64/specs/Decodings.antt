@@ -24,21 +24,24 @@ abbrev pub formed : Option (ℕ × ℕ) → (ℕ → Option Instruction) → Opt
 formed None f = None
 formed (Some p) f = ending (f p.0) p.1
 
+-- push or pop of one of eight registers, of which the first has the number given
+abbrev pub push_or_pop : ℕ → ℕ → Option Instruction
+push_or_pop first b =
+    cond (nat_le 80 b && nat_lt b 88) (Some (Push (first + (b - 80))))
+    (cond (nat_le 88 b && nat_lt b 96) (Some (Pop (first + (b - 88))))
+    None)
+
 -- one byte
 abbrev pub plain : ℕ → Option Instruction
 plain b =
     cond (b == 144) (Some Nop)
     (cond (b == 195) (Some Ret)
-    (cond (nat_le 80 b && nat_lt b 88) (cond (b == 84) None (Some (Push (b - 80))))
-    (cond (nat_le 88 b && nat_lt b 96) (cond (b == 92) None (Some (Pop (b - 88))))
-    None)))
+    (cond (b == 84 || b == 92) None
+    (push_or_pop 0 b)))
 
 -- the byte after 41
 abbrev pub upper_plain : ℕ → Option Instruction
-upper_plain b =
-    cond (nat_le 80 b && nat_lt b 88) (Some (Push (b - 72)))
-    (cond (nat_le 88 b && nat_lt b 96) (Some (Pop (b - 80)))
-    None)
+upper_plain b = push_or_pop 8 b
 
 abbrev pub rsp_form : ℕ → ℕ → Option Instruction
 rsp_form g d = cond (g == 236) (Some (SubRsp d)) (cond (g == 196) (Some (AddRsp d)) None)

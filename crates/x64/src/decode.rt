@@ -1,19 +1,12 @@
 // The instruction that bytes begin with, in either displacement size.
-ghost use Rattle.std.specs.Prelude.{◌≡◌, Option, ℕ, ◌<◌, Bool, true, List, ◌++◌, length, Some, slice_index};
-ghost use Rattle.x64.specs.Decodings.{displaced, plain, upper_plain, rsp_form, set_form, at_rsp_form, at_frame_form, memory_in, set_in, rexed, formed, extended, decoded};
+ghost use Rattle.std.specs.Prelude.{◌≡◌, Option, ℕ, ◌<◌, ◌≤◌, Bool, true, List, ◌++◌, length, Some};
+ghost use Rattle.x64.specs.Decodings.{displaced, push_or_pop, plain, rsp_form, set_form, at_rsp_form, at_frame_form, memory_in, set_in, rexed, formed, extended, decoded};
 ghost use Rattle.x64.specs.Encodings.{encode_as, well_formed};
 ghost use Rattle.x64.specs.Laws.{Form};
 ghost use Rattle.x64.specs.declared.instruction.Instruction.{Instruction};
 
 use crate::instruction::Instruction;
 use layout::word::word_at;
-
-// The byte at `at`, and 0 past the end.
-fn byte_at(bytes: &[u8], at: usize) -> u8
-    ensures { result ≡ slice_index bytes.now at }
-{
-    bytes.get(at).copied().unwrap_or(0)
-}
 
 // A signed byte as 32 signed bits.
 fn extend(b: u8) -> u32
@@ -49,6 +42,18 @@ fn with_displacement<F: FnOnce(u32) -> Option<Instruction>>(
     Some((form(d)?, end))
 }
 
+// Push or pop of one of eight registers, of which the first has the number `first`.
+fn push_or_pop(b: u8, first: u8) -> Option<Instruction>
+    requires { first ≤ 8 }
+    ensures { result ≡ push_or_pop first b }
+{
+    match b {
+        0x50..=0x57 => Some(Instruction::Push(first + (b - 0x50))),
+        0x58..=0x5f => Some(Instruction::Pop(first + (b - 0x58))),
+        _ => None,
+    }
+}
+
 fn plain_form(b: u8) -> Option<Instruction>
     ensures { result ≡ plain b }
 {
@@ -56,19 +61,7 @@ fn plain_form(b: u8) -> Option<Instruction>
         0x90 => Some(Instruction::Nop),
         0xc3 => Some(Instruction::Ret),
         0x54 | 0x5c => None,
-        0x50..=0x57 => Some(Instruction::Push(b - 0x50)),
-        0x58..=0x5f => Some(Instruction::Pop(b - 0x58)),
-        _ => None,
-    }
-}
-
-fn upper_form(b: u8) -> Option<Instruction>
-    ensures { result ≡ upper_plain b }
-{
-    match b {
-        0x50..=0x57 => Some(Instruction::Push(b - 0x48)),
-        0x58..=0x5f => Some(Instruction::Pop(b - 0x50)),
-        _ => None,
+        _ => push_or_pop(b, 0),
     }
 }
 
@@ -82,6 +75,7 @@ fn form_on_rsp(group: u8, d: u32) -> Option<Instruction>
     }
 }
 
+// Apart from the next function: at RSP, register 4 has no form; at a frame register it has the lea alone, which no other has.
 fn form_at_rsp(op: u8, register: u8, displacement: u32) -> Option<Instruction>
     ensures { result ≡ at_rsp_form op register displacement }
 {
@@ -147,7 +141,7 @@ fn decode_memory(rex: u8, op: u8, bytes: &[u8]) -> Option<(Instruction, usize)>
     requires { rex < 8 }
     ensures { result ≡ memory_in rex op bytes.now }
 {
-    let m = byte_at(bytes, 2);
+    let m = *bytes.get(2)?;
     let register = m / 8 % 8 + 8 * (rex / 4);
     if m / 64 != 1 && m / 64 != 2 {
         return None;
@@ -157,7 +151,7 @@ fn decode_memory(rex: u8, op: u8, bytes: &[u8]) -> Option<(Instruction, usize)>
         let frame = m % 8 + 8 * (rex % 2);
         return with_displacement(wide, bytes, 3, |d| form_at_frame(op, register, frame, d));
     }
-    if rex % 2 != 0 || byte_at(bytes, 3) != 0x24 {
+    if rex % 2 != 0 || *bytes.get(3)? != 0x24 {
         return None;
     }
     with_displacement(wide, bytes, 4, |d| form_at_rsp(op, register, d))
@@ -167,7 +161,7 @@ fn decode_set(rex: u8, bytes: &[u8]) -> Option<(Instruction, usize)>
     requires { rex < 8 }
     ensures { result ≡ set_in rex bytes.now }
 {
-    let m = byte_at(bytes, 2);
+    let m = *bytes.get(2)?;
     if m < 192 || m >= 200 || rex >= 2 {
         return None;
     }
@@ -183,12 +177,12 @@ fn decode_rex(rex: u8, bytes: &[u8]) -> Option<(Instruction, usize)>
     if rex / 2 % 2 != 0 {
         return None;
     }
-    match byte_at(bytes, 1) {
+    match *bytes.get(1)? {
         op @ (0x81 | 0x83) => {
             if rex != 0 {
                 return None;
             }
-            let group = byte_at(bytes, 2);
+            let group = *bytes.get(2)?;
             with_displacement(op == 0x81, bytes, 3, |d| form_on_rsp(group, d))
         }
         0xc7 => decode_set(rex, bytes),
@@ -202,9 +196,9 @@ pub fn decode(bytes: &[u8]) -> Option<(Instruction, usize)>
     ensures value { result ≡ decoded bytes.now }
     ensures back { (i : Instruction) (wide : Bool) (rest : List ℕ) → well_formed i ≡ true → Form wide i → bytes.now ≡ encode_as wide i ++ rest → result ≡ Some (i, length (encode_as wide i)) }
 {
-    match byte_at(bytes, 0) {
+    match *bytes.first()? {
         0xe8 => with_displacement(true, bytes, 1, |d| Some(Instruction::Call(d))),
-        0x41 => upper_form(byte_at(bytes, 1)).map(|i| (i, 2)),
+        0x41 => push_or_pop(*bytes.get(1)?, 8).map(|i| (i, 2)),
         b @ 0x48..=0x4f => decode_rex(b - 0x48, bytes),
         b => plain_form(b).map(|i| (i, 1)),
     }

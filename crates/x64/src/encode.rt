@@ -1,6 +1,6 @@
 // The bytes of an instruction, in the shortest form. Each form is written as one array: in two pieces, a head and a displacement,
 // each function wants a proof file, and is no shorter.
-ghost use Rattle.std.specs.Prelude.{◌≡◌, ℕ, ◌+◌, ◌<◌, ◌≤◌, not, ◌||◌, [], ◌∷◌, ◌++◌, length, if◌then◌else◌, Some, None, nat_le};
+ghost use Rattle.std.specs.Prelude.{◌≡◌, ◌+◌, ◌<◌, ◌≤◌, not, ◌∷◌, length, if◌then◌else◌, Some, None, nat_le};
 ghost use Rattle.layout.specs.Words.{overwritten};
 ghost use Rattle.layout.specs.Cursors.{HasRoom, wrote};
 ghost use Rattle.x64.specs.Encodings.{short, high, low, four, modrm, encode, one_register, on_rsp, at_rsp, at_frame};

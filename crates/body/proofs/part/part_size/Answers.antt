@@ -1,18 +1,23 @@
-use Rattle.std.proofs.Common.{length, ap, arith}
-use Rattle.body.proofs.Bytes.{some_length, none_given, forward_none}
+use Rattle.std.proofs.Common.{sym, ◌∙◌, arith, rules}
+use Rattle.std.proofs.lemmas.Iterator.{YieldsList-from_map}
+use Rattle.std.proofs.lemmas.Iterator.Consumers.{YieldsList-at, sum_by_from_yields_List, fits_by_from_yields_list}
+use Rattle.plan.proofs.Sizes.{bytes-short}
+use Rattle.body.proofs.Bytes.{instruction_size, bytes_sized}
 use Rattle.body.proofs.part.part_size.Goals as goal
-use Rattle.body.proofs.part.part_size.Goals.{in-Some, in_default}
 
-pub loop-s-preserved : goal.loop-s-preserved
-loop-s-preserved g c =
-    elim c.match-give.branch [
-      | in-Some w ↦ (
-        λ k y. let e = some_length _ _ _ c.loop-s-test.true _ c.from.ensures k _ (y _ _ w.in-Some.ensures) in omega (arith, e, c.loop-s.invariant.0 k y, w.n-is, w.encoded_length-n.ensures.length),
-        omega (arith, c.loop-s.invariant.1, w.n-is, w.encoded_length-n.ensures.bound),
-      )
-      | in_default w ↦
-          (λ k y. let e = none_given _ _ _ c.loop-s-test.true _ c.from.ensures k (y _ _ w.in_default.ensures) in omega (arith, ap length e, c.loop-s.invariant.0 k y, w.n-is), omega (arith, c.loop-s.invariant.1, w.n-is))
-    ]
+pub sum-requires-clause-fits : goal.sum-requires-clause-fits
+sum-requires-clause-fits g c =
+    let few = c.requires.few in
+    fits_by_from_yields_list instruction_size few.0 c.map.result _ (YieldsList-from_map {steps = g.I.Iterator.next_gives} {v = λ i. i} _ instruction_size (YieldsList-at c.map.ensures.source (record { runs = few.1 })) c.map.ensures.closure (λ x r q k. search rules))
+    (omega (arith, bytes_sized few.0, bytes-short few.0, few.2))
 
 pub returns-clause-size : goal.returns-clause-size
-returns-clause-size g c = λ k y. let e = ap length (forward_none k _ _ c.loop-s-test.false) in omega (arith, c.loop-s.invariant.0 k y, e)
+returns-clause-size g c = λ is y.
+    sum_by_from_yields_List instruction_size is c.map.result _ c.sum.ensures.ran (YieldsList-from_map {steps = g.I.Iterator.next_gives} {v = λ i. i} _ instruction_size (YieldsList-at c.map.ensures.source (record { runs = y })) c.map.ensures.closure (λ x r q k. search rules))
+    ∙ sym (bytes_sized is)
+
+pub returns-clause-bound : goal.returns-clause-bound
+returns-clause-bound g c =
+    let few = c.requires.few in
+    let e = sum_by_from_yields_List instruction_size few.0 c.map.result _ c.sum.ensures.ran (YieldsList-from_map {steps = g.I.Iterator.next_gives} {v = λ i. i} _ instruction_size (YieldsList-at c.map.ensures.source (record { runs = few.1 })) c.map.ensures.closure (λ x r q k. search rules)) in
+    omega (arith, e, bytes_sized few.0, bytes-short few.0, few.2)

@@ -1,14 +1,11 @@
-use Rattle.std.proofs.Common.{[], ◌∷◌, ap}
-use Rattle.plan.specs.Bodies.{entering}
-use Rattle.layout.proofs.Cursors.{recast, room, step, finish}
-use Rattle.body.proofs.Bytes.{some_given, forward_none}
+use Rattle.std.proofs.Common.{map, rules}
+use Rattle.plan.specs.Bodies.{enter}
+use Rattle.plan.specs.Steps.{step_of}
+use Rattle.body.proofs.Bytes.{yields_enter}
 use Rattle.body.proofs.part.write_prologue.Goals as goal
 
-pub emit-requires : goal.emit-requires
-emit-requires c = room _ _ (recast c.loop-s.invariant (some_given _ _ _ c.loop-s-test.true _ c.from.ensures entering _ (ap (λ i. i ∷ []) c.instruction.ensures)))
-
-pub loop-s-preserved : goal.loop-s-preserved
-loop-s-preserved c = step _ _ (recast c.loop-s.invariant (some_given _ _ _ c.loop-s-test.true _ c.from.ensures entering _ (ap (λ i. i ∷ []) c.instruction.ensures))) _ c.emit.ensures
+pub write_part-requires-clause-room : goal.write_part-requires-clause-room
+write_part-requires-clause-room c = (enter (map step_of c.args.steps.now), yields_enter _ c.map.result c.args.steps.now (cc) c.map.ensures.closure (λ x i q k. search rules), c.requires)
 
 pub returns : goal.returns
-returns c = finish (recast c.loop-s.invariant (forward_none entering _ _ c.loop-s-test.false))
+returns c = c.write_part.ensures _ (yields_enter _ c.map.result c.args.steps.now (cc) c.map.ensures.closure (λ x i q k. search rules))

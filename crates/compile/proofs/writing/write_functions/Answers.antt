@@ -17,9 +17,6 @@ write_function-requires-clause-room c = function_room c.loop-f.invariant.2 _ _ c
 pub write_function-requires-clause-low : goal.write_function-requires-clause-low
 write_function-requires-clause-low c = function_low c.loop-f.invariant.2 _ _ c.in-Some.ensures.steps _ c.up16-begin.ensures _ c.write_gap.ensures
 
-pub overflow_add-end : goal.overflow_add-end
-overflow_add-end c = record { fits = omega (arith, code_end c.loop-f.invariant.2 _ _ c.in-Some.ensures.steps _ c.up16-begin.ensures _ c.write_gap.ensures _ c.write_function.ensures) }
-
 pub overflow_cast-end : goal.overflow_cast-end
 overflow_cast-end c = record { fits = omega (arith, code_end c.loop-f.invariant.2 _ _ c.in-Some.ensures.steps _ c.up16-begin.ensures _ c.write_gap.ensures _ c.write_function.ensures) }
 

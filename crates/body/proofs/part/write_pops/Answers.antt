@@ -1,0 +1,11 @@
+use Rattle.std.proofs.Common.{map, rules}
+use Rattle.plan.specs.Bodies.{backward, popping}
+use Rattle.plan.specs.Steps.{step_of}
+use Rattle.body.proofs.Bytes.{yields_back, pops_one}
+use Rattle.body.proofs.part.write_pops.Goals as goal
+
+pub write_part-requires-clause-room : goal.write_part-requires-clause-room
+write_part-requires-clause-room c = (backward popping (map step_of c.args.steps.now), yields_back popping pops_one _ c.filter_map.result c.args.steps.now (cc) c.filter_map.ensures.closure (λ s r q p. search rules), c.requires)
+
+pub returns : goal.returns
+returns c = c.write_part.ensures _ (yields_back popping pops_one _ c.filter_map.result c.args.steps.now (cc) c.filter_map.ensures.closure (λ s r q p. search rules))
