@@ -71,8 +71,9 @@ fn show_word<M: Memory>(rt: &impl Print, m: &mut M, at: Address) -> io::Result<(
     match read_item::<8, u64, M>(m, at) {
         Ok(word) => println!(rt; "  {start:#x}: {word:#018x}"),
         Err(ItemFault::Unread(lacking)) => {
+            let number = lacking.number();
             let hole = lacking.at.0;
-            println!(rt; "  {start:#x}: refused with 30, no byte is shown at {hole:#x}")
+            println!(rt; "  {start:#x}: refused with {number}, no byte is shown at {hole:#x}")
         }
         Err(e) => {
             let number = e.number();

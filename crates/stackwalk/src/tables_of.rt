@@ -1,7 +1,7 @@
 // Loading a table from bytes or files, and reporting it.
 use crate::refusal::show_refusal;
 use crate::report::show_entries;
-use anyhow::anyhow;
+use anyhow::{Context, anyhow};
 use layout::address::{Address, Rva};
 use std::fs;
 use tables::area::InfoArea;
@@ -16,26 +16,21 @@ fn number(rt: &HostRuntime, text: &str) -> anyhow::Result<u64> {
         Some(digits) => u64::from_str_radix(digits, 16),
         None => text.parse::<u64>(),
     };
-    // No `map_err`: the words are made on the heap, which may fail.
-    let Ok(n) = read else {
-        return Err(anyhow!(format!(in rt.alloc(); "not a number: {text}")?));
-    };
-    Ok(n)
+    read.ok()
+        .with_context(|| format!(in rt.alloc(); "not a number: {text}"))
 }
 
 fn bytes_of(rt: &HostRuntime, path: &str) -> anyhow::Result<Vec<u8>> {
-    let Ok(bytes) = fs::read(rt, path) else {
-        return Err(anyhow!(format!(in rt.alloc(); "cannot read the file {path}")?));
-    };
-    Ok(bytes)
+    let read = fs::read(rt, path);
+    read.ok()
+        .with_context(|| format!(in rt.alloc(); "cannot read the file {path}"))
 }
 
 // The text of a file.
 pub fn text_of(rt: &HostRuntime, path: &str) -> anyhow::Result<String> {
-    let Ok(text) = fs::read_to_string(rt, path) else {
-        return Err(anyhow!(format!(in rt.alloc(); "cannot read the file {path} as text")?));
-    };
-    Ok(text)
+    let read = fs::read_to_string(rt, path);
+    read.ok()
+        .with_context(|| format!(in rt.alloc(); "cannot read the file {path} as text"))
 }
 
 // The entries of a table.
