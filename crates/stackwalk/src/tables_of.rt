@@ -29,8 +29,7 @@ fn bytes_of(rt: &HostRuntime, path: &str) -> anyhow::Result<Vec<u8>> {
 // The text of a file.
 pub fn text_of(rt: &HostRuntime, path: &str) -> anyhow::Result<String> {
     let read = fs::read_to_string(rt, path);
-    read.ok()
-        .with_context(|| format!(in rt.alloc(); "cannot read the file {path} as text"))
+    read.ok().with_context(|| format!(in rt.alloc(); "cannot read the file {path} as text"))
 }
 
 // The entries of a table.
