@@ -1,28 +1,28 @@
 -- The bytes of instructions, by parts.
-use Rattle.std.proofs.Common.{◌≡◌, ℕ, suc, ◌+◌, ◌≤◌, List, [], ◌∷◌, ◌++◌, map, length, reverse, get_or, drop, Some, None, Option, Bor, sym, refl, ap, ◌∙◌, subst, arith}
+use Rattle.std.proofs.Common.{◌≡◌, ℕ, suc, ◌+◌, ◌*◌, ◌≤◌, List, [], ◌∷◌, ◌++◌, map, length, reverse, get_or, drop, Some, None, Option, Bor, sym, refl, ap, ◌∙◌, subst, arith}
 use Rattle.std.specs.Iterator.{AlwaysYields, Yields}
 use Rattle.std.specs.Iterator.Adapters.{map_source, map_callee, filter_map_source, filter_map_callee, filter_map_steps, rev_source, rev_steps}
 use Rattle.std.specs.List.{filter_map, cons_option, sum_by}
-use Rattle.std.specs.Option.{MatchOption}
+use Rattle.std.specs.Option.{MatchOption, option_to_list}
 use Rattle.std.specs.Slice.Iter.{iter_rest, iter_steps_back}
 use Rattle.std.proofs.Math.Seq.{split_at}
 use Rattle.std.proofs.lemmas.Iterator.{YieldsList, YieldsList-from_slice, YieldsList-from_map, maps}
 use Rattle.std.proofs.lemmas.Iterator.Adapters.{YieldsList-from_rev_slice}
 use Rattle.std.proofs.lemmas.Iterator.Consumers.{YieldsList-from_filter_map, YieldsList-so_far, YieldsList-turn, YieldsList-end}
-use Rattle.std.proofs.lemmas.List.{append_assoc, append-nil, length-append, map-append, map-id, reverse-append}
+use Rattle.std.proofs.lemmas.List.{append_assoc, append-nil, length-append, length-map, map-append, map-id, reverse-append}
 use Rattle.std.proofs.lemmas.List.Sums.{sum_by-cons}
 use Rattle.layout.specs.declared.cursor.Cursor.{Cursor}
 use Rattle.layout.specs.Cursors.{HasRoom, wrote}
 use Rattle.layout.proofs.Cursors.{room-first, room-rest, wrote-append}
 use Rattle.x64.specs.Encodings.{encode}
 use Rattle.x64.specs.declared.instruction.Instruction.{Instruction}
+use Rattle.plan.proofs.Sizes.{bytes-short}
 use Rattle.plan.specs.Bodies.{bytes, forward, backward, enter, entering, loading, popping}
 use Rattle.plan.specs.Steps.{step_of, step_instruction}
 use Rattle.plan.specs.declared.step.Step.{Step}
 use Rattle.plan.specs.declared.step.Step.TheVariants.{Push, Allocate, SetFrame, Save}
 use Rattle.plan.specs.declared.text.StepRecord.{StepRecord}
 use Rattle.steps.specs.declared.set_frame.SetFrameStep.{SetFrameStep}
-use Rattle.body.specs.Parts.{listed}
 use denote.Param.Members.{Mut, Called}
 use Rattle.std.specs.declared.iter.FilterMap.{FilterMap}
 use Rattle.std.specs.declared.iter.Rev.{Rev}
@@ -44,7 +44,7 @@ unfolding bytes
 none = refl
 
 -- one instruction or none has as many bytes
-pub listed_size : (o : Option Instruction) (is : List Instruction) → listed o ≡ is → (n : ℕ) → MatchOption o (n ≡ 0) (λ i. n ≡ length (encode i)) → n ≡ length (bytes is)
+pub listed_size : (o : Option Instruction) (is : List Instruction) → option_to_list o ≡ is → (n : ℕ) → MatchOption o (n ≡ 0) (λ i. n ≡ length (encode i)) → n ≡ length (bytes is)
 listed_size None is e n h = h ∙ ap length (sym none ∙ ap bytes e)
 listed_size (Some i) is e n h = h ∙ ap length (sym (one i) ∙ ap bytes e)
 
@@ -71,10 +71,18 @@ same_length g (s ∷ ss) =
     ∙ omega (arith, ap length (bytes-append (g s) (forward g ss)), length-append (bytes (g s)) (bytes (forward g ss)))
 
 -- with one instruction at most for each step, there are no more than steps
-pub forward-count : (g : Step → List Instruction) → ((s : Step) → length (g s) ≤ 1) → (ss : List Step) → length (forward g ss) ≤ length ss
+forward-count : (g : Step → List Instruction) → ((s : Step) → length (g s) ≤ 1) → (ss : List Step) → length (forward g ss) ≤ length ss
 unfolding forward
 forward-count g h [] = omega arith
 forward-count g h (s ∷ ss) = omega (arith, length-append (g s) (forward g ss), h s, forward-count g h ss)
+
+-- a part of one instruction at most for each step: no more of them than records, with 8 bytes at most for each
+module _ (g : Step → List Instruction) (h : (s : Step) → length (g s) ≤ 1) (rs : List StepRecord) where
+  pub part_few : length (forward g (map step_of rs)) ≤ length rs
+  part_few = omega (arith, forward-count g h (map step_of rs), length-map rs step_of)
+
+  pub part_short : length (bytes (forward g (map step_of rs))) ≤ 8 * length rs
+  part_short = omega (arith, bytes-short (forward g (map step_of rs)), part_few)
 
 -- last to first is first to last of the reverse
 backward_reversed : (g : Step → List Instruction) (rs : List StepRecord) → backward g (map step_of rs) ≡ forward g (map step_of (reverse rs))
@@ -104,28 +112,28 @@ abbrev first : List Instruction → Option Instruction
 first [] = None
 first (i ∷ is) = Some i
 
-first_listed : (o : Option Instruction) (is : List Instruction) → listed o ≡ is → o ≡ first is
+first_listed : (o : Option Instruction) (is : List Instruction) → option_to_list o ≡ is → o ≡ first is
 first_listed None is e = ap first e
 first_listed (Some i) is e = ap first e
 
-pub loads_one : (f : Option SetFrameStep) (s : Step) → listed (first (loading f s)) ≡ loading f s
+pub loads_one : (f : Option SetFrameStep) (s : Step) → option_to_list (first (loading f s)) ≡ loading f s
 loads_one f (Push k) = refl
 loads_one f (Allocate k) = refl
 loads_one f (SetFrame k) = refl
 loads_one f (Save k) = refl
 
-pub pops_one : (s : Step) → listed (first (popping s)) ≡ popping s
+pub pops_one : (s : Step) → option_to_list (first (popping s)) ≡ popping s
 pops_one (Push k) = refl
 pops_one (Allocate k) = refl
 pops_one (SetFrame k) = refl
 pops_one (Save k) = refl
 
-cons_listed : (o : Option Instruction) (is : List Instruction) → cons_option o is ≡ listed o ++ is
+cons_listed : (o : Option Instruction) (is : List Instruction) → cons_option o is ≡ option_to_list o ++ is
 cons_listed None is = refl
 cons_listed (Some i) is = refl
 
 -- what g gives for steps, one instruction at most for each
-module _ (g : Step → List Instruction) (h : (s : Step) → listed (first (g s)) ≡ g s) where
+module _ (g : Step → List Instruction) (h : (s : Step) → option_to_list (first (g s)) ≡ g s) where
   given : (rs : List StepRecord) → filter_map (λ r. first (g (step_of r))) rs ≡ forward g (map step_of rs)
   unfolding forward
   given [] = refl
@@ -136,14 +144,14 @@ module _ (g : Step → List Instruction) (h : (s : Step) → listed (first (g s)
 
   -- for each step from the first on
   pub yields_front : {F : Type 0} (called : Mut F (Bor StepRecord × Unit {0}) (Option Instruction)) {f : F} (s : FilterMap (Iter StepRecord) F) (rs : List StepRecord) → iter_rest (filter_map_source s) ≡ rs → filter_map_callee s ≡ f
-      → ((x : Bor StepRecord) (r : Option Instruction) (q : F) → Called called f (x, tt) r q → (q ≡ f) × (listed r ≡ g (step_of x.now)))
+      → ((x : Bor StepRecord) (r : Option Instruction) (q : F) → Called called f (x, tt) r q → (q ≡ f) × (option_to_list r ≡ g (step_of x.now)))
       → AlwaysYields (filter_map_steps fronts called) (λ i. i) s (forward g (map step_of rs))
   yields_front called {f} s rs e c k =
       subst (AlwaysYields (filter_map_steps fronts called) (λ i. i) s) (given rs)
       (YieldsList-from_filter_map called (λ r. first (g (step_of r))) (YieldsList-from_slice rs e) c (λ x r q p. let y = k x r q p in (y.0, first_listed _ _ y.1))).runs
 
   pub yields_back : {F : Type 0} (called : Mut F (Bor StepRecord × Unit {0}) (Option Instruction)) {f : F} (s : FilterMap (Rev (Iter StepRecord)) F) (rs : List StepRecord) → iter_rest (rev_source (filter_map_source s)) ≡ rs → filter_map_callee s ≡ f
-      → ((x : Bor StepRecord) (r : Option Instruction) (q : F) → Called called f (x, tt) r q → (q ≡ f) × (listed r ≡ g (step_of x.now)))
+      → ((x : Bor StepRecord) (r : Option Instruction) (q : F) → Called called f (x, tt) r q → (q ≡ f) × (option_to_list r ≡ g (step_of x.now)))
       → AlwaysYields (filter_map_steps (rev_steps iter_steps_back) called) (λ i. i) s (backward g (map step_of rs))
   yields_back called {f} s rs e c k =
       subst (AlwaysYields (filter_map_steps (rev_steps iter_steps_back) called) (λ i. i) s) (given (reverse rs) ∙ sym (backward_reversed g rs))

@@ -108,14 +108,11 @@ operations_few rs h =
     omega (arith, function_sized [] 0 f, few_bytes f (omega arith) h)
 
 -- what is to be written, in the form in which it is written
-pub leave_begin : (c : Cursor) (ss : List Step) → HasRoom c (bytes (leave ss)) → (fr : Option SetFrameStep) → fr ≡ frame ss → (size : ℕ) → size ≡ block ss →
-    Rest c (bytes (leave ss)) c (bytes (backward (loading fr) ss) ++ (bytes (leave_by fr size) ++ (bytes (backward popping ss) ++ encode Ret)))
-leave_begin c ss h fr e size b =
-    let tail = bytes (backward popping ss) ++ encode Ret in
+pub leave_begin : (c : Cursor) (ss : List Step) → HasRoom c (bytes (leave ss)) → (fr : Option SetFrameStep) → fr ≡ frame ss →
+    Rest c (bytes (leave ss)) c (bytes (backward (loading fr) ss) ++ (bytes (leave_by (frame ss) (block ss)) ++ (bytes (backward popping ss) ++ encode Ret)))
+leave_begin c ss h fr e =
     recast (begin c (bytes (leave ss)) h)
-    (leave_parts ss
-    ∙ ap (λ f. bytes (backward (loading f) ss) ++ (bytes (leave_by f (block ss)) ++ tail)) (sym e)
-    ∙ ap (λ n. bytes (backward (loading fr) ss) ++ (bytes (leave_by fr n) ++ tail)) (sym b))
+    (leave_parts ss ∙ ap (λ f. bytes (backward (loading f) ss) ++ (bytes (leave_by (frame ss) (block ss)) ++ (bytes (backward popping ss) ++ encode Ret))) (sym e))
 
 -- a function in the form in which it is written, and how far: the operations stand behind the prologue
 module _ (c : Cursor) (st : List ℕ) (rva : ℕ) (f : Function) (h : HasRoom c (function_bytes st rva f)) where

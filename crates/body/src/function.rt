@@ -3,23 +3,23 @@ ghost use Rattle.std.specs.Prelude.{◌≡◌, ◌+◌, ◌^◌, ◌<◌, ◌≤
 ghost use Rattle.layout.specs.Cursors.{HasRoom, wrote};
 ghost use Rattle.plan.specs.Bodies.{bytes, leave_by, leave, function_bytes, function_size};
 ghost use Rattle.plan.specs.Functions.{function_of};
-ghost use Rattle.plan.specs.Steps.{step_of};
-ghost use Rattle.body.specs.Parts.{listed};
+ghost use Rattle.plan.specs.Steps.{step_of, block, frame};
+ghost use Rattle.std.specs.Option.{option_to_list};
 
 use crate::operations::{operations_size, write_operations};
 use crate::part::{loads_size, pops_size, prologue_size, write_loads, write_pops, write_prologue};
 use layout::cursor::Cursor;
 use plan::survey::{block_size, frame_register};
 use plan::text::{Function, StepRecord};
-use steps::set_frame::SetFrameStep;
 use x64::encode::{emit, encoded_length};
 use x64::instruction::Instruction;
 
 // The instruction that moves RSP to the block's end.
-fn leaving(frame: Option<SetFrameStep>, block: u32) -> Option<Instruction>
-    ensures { listed result ≡ leave_by frame block }
+fn leaving(steps: &[StepRecord]) -> Option<Instruction>
+    ensures { option_to_list result ≡ leave_by (frame (map step_of steps.now)) (block (map step_of steps.now)) }
 {
-    match frame {
+    let block = block_size(steps);
+    match frame_register(steps) {
         Some(f) => Some(Instruction::LeaRspAtFrame {
             frame: f.register,
             displacement: block.wrapping_sub(u32::from(f.offset)),
@@ -34,18 +34,18 @@ fn leaving(frame: Option<SetFrameStep>, block: u32) -> Option<Instruction>
     }
 }
 
-fn leaving_size(frame: Option<SetFrameStep>, block: u32) -> usize
-    ensures size { result ≡ length (bytes (leave_by frame block)) }
+fn leaving_size(steps: &[StepRecord]) -> usize
+    ensures size { result ≡ length (bytes (leave_by (frame (map step_of steps.now)) (block (map step_of steps.now)))) }
     ensures bound { result ≤ 8 }
 {
-    leaving(frame, block).map_or(0, encoded_length)
+    leaving(steps).map_or(0, encoded_length)
 }
 
-fn write_leaving(frame: Option<SetFrameStep>, block: u32, out: &mut Cursor)
-    requires { HasRoom out.old (bytes (leave_by frame block)) }
-    ensures { out.new ≡ wrote out.old (bytes (leave_by frame block)) }
+fn write_leaving(steps: &[StepRecord], out: &mut Cursor)
+    requires { HasRoom out.old (bytes (leave_by (frame (map step_of steps.now)) (block (map step_of steps.now)))) }
+    ensures { out.new ≡ wrote out.old (bytes (leave_by (frame (map step_of steps.now)) (block (map step_of steps.now)))) }
 {
-    if let Some(i) = leaving(frame, block) {
+    if let Some(i) = leaving(steps) {
         emit(out, i);
     }
 }
@@ -55,9 +55,8 @@ fn write_leave(steps: &[StepRecord], out: &mut Cursor)
     requires { HasRoom out.old (bytes (leave (map step_of steps.now))) }
     ensures { out.new ≡ wrote out.old (bytes (leave (map step_of steps.now))) }
 {
-    let frame = frame_register(steps);
-    write_loads(frame, steps, out);
-    write_leaving(frame, block_size(steps), out);
+    write_loads(frame_register(steps), steps, out);
+    write_leaving(steps, out);
     write_pops(steps, out);
     emit(out, Instruction::Ret);
 }
@@ -68,11 +67,10 @@ pub fn function_size(f: Function<'_>) -> usize
     ensures size { result ≡ function_size (function_of f.entry) }
     ensures bound { result ≤ 2300 }
 {
-    let frame = frame_register(f.steps);
     let entering = prologue_size(f.steps);
     let working = operations_size(f.operations);
-    let loading = loads_size(frame, f.steps);
-    let leaving = leaving_size(frame, block_size(f.steps));
+    let loading = loads_size(frame_register(f.steps), f.steps);
+    let leaving = leaving_size(f.steps);
     let popping = pops_size(f.steps);
     entering + working + loading + leaving + popping + 1
 }

@@ -5,7 +5,7 @@ ghost use Rattle.layout.specs.Cursors.{HasRoom, wrote};
 ghost use Rattle.x64.specs.declared.instruction.Instruction.{Instruction};
 ghost use Rattle.plan.specs.Steps.{step_of};
 ghost use Rattle.plan.specs.Bodies.{bytes, forward, backward, enter, loading, popping};
-ghost use Rattle.body.specs.Parts.{listed};
+ghost use Rattle.std.specs.Option.{option_to_list};
 
 use layout::cursor::Cursor;
 use plan::step::Step;
@@ -16,7 +16,7 @@ use x64::instruction::Instruction;
 
 // A save is loaded from its slot, by the frame register where there is one.
 fn load(frame: Option<SetFrameStep>, step: &StepRecord) -> Option<Instruction>
-    ensures { listed result ≡ loading frame (step_of step.now) }
+    ensures { option_to_list result ≡ loading frame (step_of step.now) }
 {
     match (Step::from(*step), frame) {
         (Step::Save(k), None) => Some(Instruction::LoadAtRsp {
@@ -33,7 +33,7 @@ fn load(frame: Option<SetFrameStep>, step: &StepRecord) -> Option<Instruction>
 }
 
 fn pop(step: &StepRecord) -> Option<Instruction>
-    ensures { listed result ≡ popping (step_of step.now) }
+    ensures { option_to_list result ≡ popping (step_of step.now) }
 {
     match Step::from(*step) {
         Step::Push(k) => Some(Instruction::Pop(k.register)),

@@ -91,7 +91,13 @@ pub coded_none : (c : Cursor) (rs : List StepRecord) → HasRoom c (codes 0 (map
     → Coded c (codes 0 (map step_of rs)) c end rs
 coded_none c rs h a end e low = record { sound = a; rest = begin c (codes 0 (map step_of rs)) h; place = e; low = low }
 
--- the next step from the back
+-- the next step from the back: what writing its code asks for, and what is left then
+pub record Turn (c₀ : Cursor) (whole : List ℕ) (c : Cursor) (end : ℕ) (later : List StepRecord) (s : Step) : Type 0 where
+  pub sound : Sound s
+  pub has_room : HasRoom c (step_code end s)
+  pub fits : length (encode (step_instruction s)) ≤ end
+  pub on : (d : Cursor) → d ≡ wrote c (step_code end s) → (n : ℕ) → n ≡ length (encode (step_instruction s)) → Coded c₀ whole d (end - n) later
+
 module _ {c₀ : Cursor} {whole : List ℕ} {c : Cursor} {end : ℕ} {left : List StepRecord} (w : Coded c₀ whole c end left) (later : List StepRecord) (r : StepRecord) (cons : left ≡ later ++ r ∷ []) (s : Step) (e : s ≡ step_of r) where
   steps_are : map step_of left ≡ map step_of later ++ s ∷ []
   steps_are = ap (map step_of) cons ∙ map-append step_of later (r ∷ []) ∙ ap (λ x. map step_of later ++ x ∷ []) (sym e)
@@ -99,25 +105,21 @@ module _ {c₀ : Cursor} {whole : List ℕ} {c : Cursor} {end : ℕ} {left : Lis
   sounds : AllSound (map step_of later) × Sound s
   sounds = sound_push (map step_of later) s (subst AllSound steps_are w.sound)
 
-  pub next_sound : Sound s
-  next_sound = sounds.1
-
   ends : end ≡ length (bytes (enter (map step_of later))) + length (encode (step_instruction s))
   ends = w.place ∙ ap (λ l. length (bytes (enter l))) steps_are ∙ enter_push (map step_of later) s
-
-  pub next_fits : length (encode (step_instruction s)) ≤ end
-  next_fits = omega (arith, ends)
 
   code-next : Rest c₀ whole c (step_code end s ++ codes 0 (map step_of later))
   code-next =
       let place : 0 + length (bytes (enter (map step_of later))) + length (encode (step_instruction s)) ≡ end = omega (arith, ends) in
       recast w.rest (ap (codes 0) steps_are ∙ codes_push 0 (map step_of later) s ∙ ap (λ k. step_code k s ++ codes 0 (map step_of later)) place)
 
-  pub next_room : HasRoom c (step_code end s)
-  next_room = room _ _ code-next
-
-  pub coded_on : (d : Cursor) → d ≡ wrote c (step_code end s) → (n : ℕ) → n ≡ length (encode (step_instruction s)) → Coded c₀ whole d (end - n) later
-  coded_on d q n h = record { sound = sounds.0; rest = step _ _ code-next d q; place = omega (arith, ends, h); low = omega (arith, w.low) }
+  pub coded_turn : Turn c₀ whole c end later s
+  coded_turn = record {
+    sound = sounds.1;
+    has_room = room _ _ code-next;
+    fits = omega (arith, ends);
+    on = λ d q n h. record { sound = sounds.0; rest = step _ _ code-next d q; place = omega (arith, ends, h); low = omega (arith, w.low) };
+  }
 
 pub coded_all : {c₀ : Cursor} {whole : List ℕ} {c : Cursor} {end : ℕ} (left : List StepRecord) → Coded c₀ whole c end left → length left ≡ 0 → c ≡ wrote c₀ whole
 unfolding codes

@@ -53,6 +53,13 @@ written_none p st rva c i t w zc zi zt =
       few = omega (arith, zi, n, a.few);
     }
 
+-- a function that stands: what writing its entry and its info asks for, and what is left then
+pub record Stands (fs : List Function) (st : List ℕ) (rva : ℕ) (c₀ i₀ t₀ i t : Cursor) (f : Function) (later : List Function) (from : ℕ) (e : Cursor) : Type 0 where
+  pub low : e.at + 2400 * length later ≤ 2400 * 64
+  pub entry_room : HasRoom t (entry from (4096 + e.at) (rva + i.at))
+  pub info_room : HasRoom i (info_bytes (steps_of f))
+  pub on : (t' i' : Cursor) → t' ≡ wrote t (entry from (4096 + e.at) (rva + i.at)) → i' ≡ wrote i (info_bytes (steps_of f)) → Written fs st rva c₀ i₀ t₀ e i' t' later
+
 -- one function: a gap, its code, its entry and its info
 module _ {fs : List Function} {st : List ℕ} {rva : ℕ} {c₀ i₀ t₀ c i t : Cursor} {left : List Function} (w : Written fs st rva c₀ i₀ t₀ c i t left) (f : Function) (later : List Function) (cons : left ≡ f ∷ later) where
   pub next_good : Good f
@@ -97,7 +104,7 @@ module _ {fs : List Function} {st : List ℕ} {rva : ℕ} {c₀ i₀ t₀ c i t 
             let u = up_fits (4096 + c.at) in
             omega (arith, ap (λ k. k.at) ee, ap (λ k. k.at) ed, length-replicate {A = ℕ} (from - (4096 + c.at)) 204, same_size f st from, eu, u.0)
 
-        pub code_end : e.at + 2400 * length later ≤ 2400 * 64
+        code_end : e.at + 2400 * length later ≤ 2400 * 64
         code_end = let u = up_fits (4096 + c.at) in omega (arith, ends, small, u.1, eu, places)
 
         code-done : Rest c₀ (code fs) e (code_from st (4096 + e.at) later)
@@ -114,16 +121,10 @@ module _ {fs : List Function} {st : List ℕ} {rva : ℕ} {c₀ i₀ t₀ c i t 
             ∙ ap (λ k. entry (up 16 at) k info ++ table_from k after later) to_end
             ∙ ap (λ u. entry u (4096 + e.at) info ++ table_from (4096 + e.at) after later) (sym eu))
 
-        pub entry_room : HasRoom t (entry from (4096 + e.at) (rva + i.at))
-        entry_room = room (entry from (4096 + e.at) (rva + i.at)) _ table-next
-
         infos-next : Rest i₀ (infos fs) i (info_bytes (steps_of f) ++ infos later)
         infos-next = recast w.in_infos (ap infos cons ∙ infos-cons f later)
 
-        pub info_room : HasRoom i (info_bytes (steps_of f))
-        info_room = room (info_bytes (steps_of f)) _ infos-next
-
-        pub written_on : (t' i' : Cursor) → t' ≡ wrote t (entry from (4096 + e.at) (rva + i.at)) → i' ≡ wrote i (info_bytes (steps_of f)) → Written fs st rva c₀ i₀ t₀ e i' t' later
+        written_on : (t' i' : Cursor) → t' ≡ wrote t (entry from (4096 + e.at) (rva + i.at)) → i' ≡ wrote i (info_bytes (steps_of f)) → Written fs st rva c₀ i₀ t₀ e i' t' later
         written_on t' i' wt wi =
             let moved : rva + i.at + length (info_bytes (steps_of f)) ≡ rva + i'.at = omega (arith, ap (λ k. k.at) wi) in
             record {
@@ -134,6 +135,14 @@ module _ {fs : List Function} {st : List ℕ} {rva : ℕ} {c₀ i₀ t₀ c i t 
               high = code_end;
               few = omega (arith, info_places, ap (λ k. k.at) wi, info_at_most f.steps next_good.few_steps);
             }
+
+        pub stands : Stands fs st rva c₀ i₀ t₀ i t f later from e
+        stands = record {
+          low = code_end;
+          entry_room = room (entry from (4096 + e.at) (rva + i.at)) _ table-next;
+          info_room = room (info_bytes (steps_of f)) _ infos-next;
+          on = written_on;
+        }
 
 -- all functions written
 pub written_all : {fs : List Function} {st : List ℕ} {rva : ℕ} {c₀ i₀ t₀ c i t : Cursor} {left : List Function} → Written fs st rva c₀ i₀ t₀ c i t left → left ≡ [] →

@@ -13,7 +13,8 @@ use plan::text::StepRecord;
 use steps::set_frame::SetFrameStep;
 use x64::encode::encoded_length;
 
-// How many bytes a step's code has.
+// How many bytes a step's code has, by the bounds by which its `write_code` chooses a form: a size is wanted before anything is
+// written.
 fn code_size(step: Step) -> usize
     ensures size { (end : ℕ) → result ≡ length (step_code end step) }
     ensures bound { result ≤ 6 }
@@ -64,10 +65,7 @@ fn frame_of(frame: Option<SetFrameStep>) -> u8
     requires { frame_byte frame < 256 }
     ensures { result ≡ frame_byte frame }
 {
-    match frame {
-        None => 0,
-        Some(f) => f.register + f.offset / 16 * 16,
-    }
+    frame.map_or(0, |f| f.register + f.offset / 16 * 16)
 }
 
 // Writes the codes of steps, last to first.

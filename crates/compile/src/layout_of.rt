@@ -15,7 +15,7 @@ pub(crate) const FIRST_RVA: usize = 4096;
 // The first of `starts`, as many as the plan has functions, are set: there is no heap for a list of just these.
 #[derive(Clone, Copy)]
 pub(crate) struct Layout {
-    pub starts: [u32; 64],
+    pub starts: [u32; MAX_FUNCTIONS],
     pub code: usize,
     pub infos: usize,
 }
@@ -46,6 +46,7 @@ pub(crate) fn measure(plan: &Plan) -> Layout
     let mut starts = [0; MAX_FUNCTIONS];
     let mut at = FIRST_RVA;
     let mut infos = 0;
+    // By an index, since a proof knows nothing of an array after `iter_mut().zip(..)` over it.
     for (k, f) in plan.functions().enumerate() {
         let begin = up16(at);
         starts[k] = begin as u32;

@@ -33,6 +33,10 @@ permitted it low size = accessible it.access low size && settles low size it.rsp
 abbrev pub in_area : Area → ℕ → Bool
 in_area area at = holds_word area.low (length area.bytes.now) at
 
+-- the word at an address of such an area, if it lies there
+abbrev pub word_in : Area → ℕ → Option ℕ
+word_in area at = cond (in_area area at) (Some (le_at 8 area.bytes.now (at - area.low))) None
+
 -- the area of a state has the word accessed
 abbrev pub accessible_in : Option Access → State → Bool
 accessible_in a s = accessible a s.low (length s.stack)
@@ -71,10 +75,6 @@ stored (Some (access.Return at)) low stack = stack
 
 abbrev pub stack_after : Intent → ℕ → List ℕ → List ℕ
 stack_after it low stack = stored it.access low stack
-
--- the word at an address of the area, if it lies there
-abbrev pub area_word : ℕ → List ℕ → ℕ → Option ℕ
-area_word low stack at = cond (holds_word low (length stack) at) (Some (le_at 8 stack (at - low))) None
 
 -- the state after an intent that is not refused
 abbrev pub performed : Intent → State → State

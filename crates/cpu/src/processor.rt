@@ -3,7 +3,7 @@ ghost use Rattle.std.specs.Prelude.{◌≡◌, ◌-◌, true, is_ok, if◌then�
 ghost use Rattle.std.specs.Result.{result_map_both};
 ghost use Rattle.layout.specs.Words.{le_at};
 ghost use Rattle.cpu.specs.Effects.{intended};
-ghost use Rattle.cpu.specs.Performance.{stack_number, holds_word, in_area, area_word, accessible_in, permitted_in, changed, loading, stack_after, performed, with_register};
+ghost use Rattle.cpu.specs.Performance.{stack_number, holds_word, in_area, word_in, accessible_in, permitted_in, changed, loading, stack_after, performed, with_register};
 ghost use Rattle.cpu.specs.Processors.{state_of, in_state, with_registers};
 
 use crate::intent::{Access, Change, Intent, intent_of};
@@ -68,8 +68,9 @@ impl<'a> Area<'a> {
 
     // The word at an address of the area, or none where it does not lie there.
     pub fn word_at(self, at: u64) -> Option<u64>
-        ensures { result ≡ area_word self.entry.low self.entry.bytes.now at }
+        ensures { result ≡ word_in self.entry at }
     {
+        // Tried with `then`: the proof did not close, since it knows nothing of what a closure over the area answers.
         if !self.holds(at) {
             return None;
         }
@@ -101,12 +102,9 @@ impl<'a> Processor<'a> {
     fn permits(&self, intent: Intent) -> bool
         ensures { result ≡ permitted_in intent (state_of self.now) }
     {
-        // By a match: with `is_none_or` the proof wants a file of its own.
-        let reached = match intent.access {
-            Some(a) => self.area().holds(a.at()),
-            None => true,
-        };
-        reached && self.low <= intent.rsp && intent.rsp - self.low <= self.stack.len() as u64
+        let (low, size) = (self.low, self.stack.len());
+        let reached = intent.access.is_none_or(|a| holds(low, size, a.at()));
+        reached && low <= intent.rsp && intent.rsp - low <= size as u64
     }
 
     fn make_change(&mut self, change: Option<Change>)

@@ -2,13 +2,15 @@
 use Rattle.std.proofs.Common.{◌≡◌, ℕ, zero, suc, ◌+◌, ◌*◌, ◌/◌, ◌%◌, ◌<◌, ◌≤◌, Bool, true, false, cond, leb, List, [], ◌∷◌, map, length, drop, get_or, is_ok, IfOk, Some, Ok, Err, Result, sym, refl, ap, ◌∙◌, arith, ◌==◌}
 use Rattle.std.proofs.lemmas.List.{length-drop, length-map}
 use Rattle.std.proofs.lemmas.Bool.{le-leb, lt-leb, leb-true, false≢true}
+use Rattle.std.specs.Result.{result_map_both}
 use Rattle.infos.specs.Codes.{bind, width, meant, decoded_in}
 use Rattle.infos.specs.Codings.{codes_left}
 use Rattle.infos.specs.Listings.{listed}
-use Rattle.infos.specs.Refusals.{InfoFault, at_slot}
+use Rattle.infos.specs.Refusals.{InfoFault, info_fault, at_slot, told}
 use Rattle.infos.specs.Sequences.{admitted, codes_from, taken, followed, outcomes, gathered, counted}
 use Rattle.infos.specs.declared.code.Code.{Code}
 use Rattle.infos.specs.declared.codes.Codes.{Codes}
+use Rattle.infos.specs.declared.refusal.InfoRefusal.{InfoRefusal}
 use Rattle.infos.specs.declared.sequence.Progress.{Progress}
 
 -- ---- what they come to
@@ -177,7 +179,7 @@ pub good_is : (r : Result (List Code) InfoFault) → is_ok r ≡ true → r ≡ 
 good_is (Ok cs) h = refl
 good_is (Err e) h = absurd (false≢true h)
 
-pub good_first : (cs : List Code) (r : Result Code InfoFault) (rs : List (Result Code InfoFault)) → map Ok cs ≡ r ∷ rs → (c : Code) × (rest : List Code) × (cs ≡ c ∷ rest) × (r ≡ Ok c) × (rs ≡ map Ok rest)
+good_first : (cs : List Code) (r : Result Code InfoFault) (rs : List (Result Code InfoFault)) → map Ok cs ≡ r ∷ rs → (c : Code) × (rest : List Code) × (cs ≡ c ∷ rest) × (r ≡ Ok c) × (rs ≡ map Ok rest)
 good_first [] r rs e = absurd (cc)
 good_first (c ∷ rest) r rs e = (c, rest, refl, (let d = sym e in cc), (let d = sym e in cc))
 
@@ -229,5 +231,24 @@ slot_at (suc k) frame s slot bs x rest e =
     let d = taken_decoded (decoded_in slot bs) slot (λ c. at_slot (Some slot) (admitted frame s c)) f.0 f.1 in
     ap (λ c. c.slot) (sym f.2) ∙ decoded-slot slot bs f.0.0 d
 
-pub first_slot : (c : Codes) (x : Code) (rest : List (Result Code InfoFault)) → codes_left c ≡ Ok x ∷ rest → x.slot ≡ c.slot
+first_slot : (c : Codes) (x : Code) (rest : List (Result Code InfoFault)) → codes_left c ≡ Ok x ∷ rest → x.slot ≡ c.slot
 first_slot c x rest e = slot_at (length c.slots.now) c.frame c.sofar c.slot c.slots.now x rest e
+
+pub both_ok : {T U E D : Type 0} (f : T → U) (g : E → D) (r : Result T E) (x : U) → result_map_both f g r ≡ Ok x → is_ok r ≡ true
+both_ok f g (Ok y) x e = refl
+both_ok f g (Err d) x e = absurd (cc)
+
+-- the next answer of an iterator with these codes left is the first of them, and the rest goes on
+module _ (c : Codes) (cs : List Code) (r : Result Code InfoRefusal) (rs : List (Result Code InfoFault)) (left : codes_left c ≡ map Ok cs) (next : codes_left c ≡ told r ∷ rs) where
+  pub next_ok : is_ok r ≡ true
+  next_ok = let f = good_first cs (told r) rs (sym left ∙ next) in both_ok (λ x. x) info_fault r f.0 f.3
+
+  pub next_is : (x : Code) → r ≡ Ok x → (rest : List Code) × (cs ≡ x ∷ rest) × (rs ≡ map Ok rest)
+  next_is x e =
+      let f = good_first cs (told r) rs (sym left ∙ next) in
+      let d = sym (ap told e) ∙ f.3 in
+      let same : f.0 ≡ x = cc in
+      (f.1, f.2 ∙ ap (λ y. y ∷ f.1) same, f.4)
+
+  pub next_slot : (x : Code) → r ≡ Ok x → x.slot ≡ c.slot
+  next_slot x e = first_slot c x rs (next ∙ ap (λ q. told q ∷ rs) e)

@@ -20,10 +20,12 @@ pub enum Tail<'a> {
 // An info as its header says, with its slots as a part of the area that it was read from.
 #[derive(Clone, Copy)]
 pub struct Info<'a> {
-    // As the header has them; the tail says what they mean.
+    // As the header has them: reports print them, and the tail does not tell 1, 2 and 3 apart.
     pub flags: u8,
     pub prologue: u8,
+    // The header's number; the slots hold two bytes for each.
     pub count: u8,
+    // 0 where there is none, as the format has it and as reports print it: no Option, since the number is the format's.
     pub frame_register: u8,
     pub frame_offset: u8,
     // Where in the area the slots stand.
@@ -35,7 +37,8 @@ pub struct Info<'a> {
 impl<'a> Info<'a> {
     ghost use Rattle.infos.specs.Codings.{codes_left};
 
-    // Its codes, one by one.
+    // Its codes, one by one. The bound, which `read_info` promises, is no invariant: the fields are public, and one would ask more
+    // of whoever makes an info.
     pub fn codes(&self) -> Codes<'a>
         requires { length self.now.slots.now ≤ 510 }
         ensures { gathered (codes_left result) ≡ codes_of self.now.prologue self.now.frame_register self.now.slots.now }

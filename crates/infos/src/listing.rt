@@ -20,9 +20,7 @@ fn write_codes(codes: Codes<'_>, records: &mut [Code])
 {
     // After `iter_mut().zip(..)` a proof knows nothing of the records.
     for (k, code) in codes.enumerate() {
-        if let Ok(code) = code {
-            records[k] = code;
-        }
+        records[k] = code.unwrap();
     }
 }
 

@@ -1,5 +1,5 @@
 // Reading the unwind info at an RVA.
-ghost use Rattle.std.specs.Prelude.{◌≡◌, ◌+◌, ◌*◌, ◌^◌, ◌≤◌, length};
+ghost use Rattle.std.specs.Prelude.{◌≡◌, ◌+◌, ◌*◌, ◌^◌, ◌≤◌, length, IfOk};
 ghost use Rattle.infos.specs.Infos.{padded, tail_size, tail_in, tail_view, header_in, header_view, located_in, info_in, info_view};
 
 use crate::info::{Info, Tail};
@@ -13,8 +13,7 @@ use tables::entry::entry_in;
 fn padded_count(count: u8) -> usize
     ensures { result ≡ padded count }
 {
-    let n = count as usize;
-    n + n % 2
+    usize::from(count).next_multiple_of(2)
 }
 
 // How many bytes the tail has at least. Here and in `read_tail` the flags are the number that the format gives: an enum would
@@ -47,7 +46,8 @@ fn read_tail(flags: u8, bytes: &[u8]) -> Tail<'_>
 // The info that `bytes` begin with, which stand at `at` in the area; its codes are not looked at.
 fn read_header(bytes: &[u8], at: usize) -> Result<Info<'_>, InfoReason>
     requires { (4 ≤ length bytes.now) × (at + 4 ≤ 2 ^ 33) }
-    ensures { header_view result ≡ header_in at bytes.now }
+    ensures value { header_view result ≡ header_in at bytes.now }
+    ensures few { IfOk result (λ i. length i.slots.now ≤ 510) }
 {
     let first = bytes[0];
     let count = bytes[2];
@@ -80,21 +80,24 @@ fn read_header(bytes: &[u8], at: usize) -> Result<Info<'_>, InfoReason>
 
 // The info at an RVA of an area; its codes are not looked at.
 fn locate(area: InfoArea<'_>, rva: Rva) -> Result<Info<'_>, InfoReason>
-    ensures { header_view result ≡ located_in area.entry rva }
+    ensures value { header_view result ≡ located_in area.entry rva }
+    ensures few { IfOk result (λ i. length i.slots.now ≤ 510) }
 {
-    if rva.0 % 4 != 0 || rva.0 < area.start.0 {
+    if rva.0 % 4 != 0 {
         return Err(InfoReason::Cut);
     }
-    let at = (rva.0 - area.start.0) as usize;
-    if area.bytes.len() < at + 4 {
+    let at = rva.0.checked_sub(area.start.0).ok_or(InfoReason::Cut)? as usize;
+    let bytes = area.bytes.get(at..).ok_or(InfoReason::Cut)?;
+    if bytes.len() < 4 {
         return Err(InfoReason::Cut);
     }
-    read_header(&area.bytes[at..], at)
+    read_header(bytes, at)
 }
 
 // The info at an RVA, read whole: header, tail and every code. Refused with 40 to 45 and the slot at work.
 pub fn read_info(area: InfoArea<'_>, rva: Rva) -> Result<Info<'_>, InfoRefusal>
-    ensures { info_view result ≡ info_in area.entry rva }
+    ensures value { info_view result ≡ info_in area.entry rva }
+    ensures few { IfOk result (λ i. length i.slots.now ≤ 510) }
 {
     let info = locate(area, rva)?;
     info.codes().check()?;

@@ -1,10 +1,8 @@
 -- Little-endian numbers of any width: read byte by byte, written, and read back.
-use Rattle.std.proofs.Common.{◌≡◌, ℕ, zero, suc, ◌+◌, ◌*◌, ◌-◌, ◌/◌, ◌%◌, ◌^◌, ◌<◌, ◌≤◌, List, [], ◌∷◌, length, get_or, take, drop, Some, sym, refl, ap, ◌∙◌, pow-suc, arith, rules}
+use Rattle.std.proofs.Common.{◌≡◌, ℕ, zero, suc, ◌*◌, ◌/◌, ◌%◌, ◌^◌, ◌+◌, ◌<◌, ◌≤◌, List, [], ◌∷◌, length, get_or, take, drop, ◌++◌, Some, sym, refl, ap, ◌∙◌, pow-suc, arith}
 use native.Mathlib.Nat.{div-div-eq-div-mul}
-use borrow.Rule.Slice.PartMut.{put_mid}
 use Rattle.std.proofs.lemmas.Nat.{div_below}
-use Rattle.std.proofs.lemmas.List.{drop_more, drop-drop, take_all, drop_at, take_at, length-append, length-take, length-take-le, length-drop}
-use Rattle.std.proofs.lemmas.Slice.{overwrites}
+use Rattle.std.proofs.lemmas.List.{drop_more, take_all, drop_at, take_at, length-append, length-take-le}
 use Rattle.std.proofs.lemmas.Bool.{le-leb, cond-true}
 use Rattle.layout.specs.Words.{le_value, le_bytes, word_at, overwritten}
 
@@ -51,17 +49,15 @@ value_of_bytes (suc n) v h =
     let below : v / 256 < 256 ^ n = div_below v 256 (256 ^ n) (omega arith) (rw pow-suc at h) in
     omega (arith, value_of_bytes n (v / 256) below)
 
--- a copy over a part
-pub copied : (bs : List ℕ) (at : ℕ) (ys new : List ℕ) → ys ≡ new → put_mid at (at + length new - at) bs ys ≡ overwritten bs at new
-copied bs at ys new e = search (rules, overwrites, drop-drop)
+-- what is read where a word stands
+pub word_there : (n : ℕ) (front new rest : List ℕ) (at v : ℕ) → length front ≡ at → new ≡ le_bytes n v → v < 256 ^ n → word_at n (front ++ (new ++ rest)) at ≡ Some v
+word_there n front new rest at v place spells small =
+    let long : length new ≡ n = ap length spells ∙ length-le_bytes n v in
+    let size : length (front ++ (new ++ rest)) ≡ at + (n + length rest) = simp (length-append) (omega arith) in
+    let part : take n (drop at (front ++ (new ++ rest))) ≡ new = ap (take n) (drop_at front _ at place) ∙ take_at new _ n long in
+    let fits : at + n ≤ length (front ++ (new ++ rest)) = omega arith in
+    cond-true _ _ _ (le-leb _ _ fits) ∙ ap (λ l. Some (le_value l)) (part ∙ spells) ∙ ap Some (value_of_bytes n v small)
 
 -- what is read where a word was written
 pub word_back : (n : ℕ) (bs : List ℕ) (at v : ℕ) → v < 256 ^ n → at + n ≤ length bs → word_at n (overwritten bs at (le_bytes n v)) at ≡ Some v
-word_back n bs at v small h =
-    let new : List ℕ = le_bytes n v in
-    let long : length new ≡ n = length-le_bytes n v in
-    let front : length (take at bs) ≡ at = length-take-le at bs (omega arith) in
-    let size : length (overwritten bs at new) ≡ length bs = simp (length-append, length-take, length-drop) (omega arith) in
-    let part : take n (drop at (overwritten bs at new)) ≡ new = ap (take n) (drop_at (take at bs) _ at front) ∙ take_at new _ n long in
-    let fits : at + n ≤ length (overwritten bs at new) = omega arith in
-    cond-true _ _ _ (le-leb _ _ fits) ∙ ap (λ l. Some (le_value l)) part ∙ ap Some (value_of_bytes n v small)
+word_back n bs at v small h = word_there n (take at bs) (le_bytes n v) (drop (at + length (le_bytes n v)) bs) at v (length-take-le at bs (omega arith)) refl small

@@ -10,7 +10,8 @@ pub struct Address(pub u64);
 #[derive(Clone, Copy, PartialEq, Eq, Debug)]
 pub struct Rva(pub u32);
 
-// What a search can look for: a number of its own kind.
+// What a search can look for: a number of its own kind. Not `Into<u64>`: clauses name the number by this trait's ghost
+// function, and the library's trait has only a relation.
 pub trait Position: Copy {
     ghost position: { Self → ℕ };
 

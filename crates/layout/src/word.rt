@@ -95,13 +95,6 @@ impl Word<16> for u128 {
     ghost short = { Prim.search rules };
 }
 
-// Whether `width` bytes lie in `size` from `at` on.
-fn lies_in(size: usize, at: usize, width: usize) -> bool
-    ensures { result ≡ nat_le (at + width) size }
-{
-    at <= size && width <= size - at
-}
-
 // The word at `at`, which lies in the slice.
 pub fn le_at<const N: usize, W: Word<N>>(bytes: &[u8], at: usize) -> W
     requires { at + N ≤ length bytes.now }
@@ -125,6 +118,7 @@ pub fn word_at<const N: usize, W: Word<N>>(bytes: &[u8], at: usize) -> Option<W>
 pub struct PastEnd;
 
 // Puts a word at `at`; where it would pass the end, changes nothing.
+#[tactic(auto, using(crate::proofs::Words::word_there))]
 pub fn write_word<const N: usize, W: Word<N>>(
     bytes: &mut [u8],
     at: usize,
@@ -134,9 +128,9 @@ pub fn write_word<const N: usize, W: Word<N>>(
     ensures after { bytes.new ≡ with_word N bytes.old at (W.value word) }
     ensures back { T (is_ok result) → word_at N bytes.new at ≡ Some (W.value word) }
 {
-    if !lies_in(bytes.len(), at, N) {
-        return Err(PastEnd);
-    }
-    bytes[at..at + N].copy_from_slice(&word.le_bytes());
+    // By a split: after a slice's `get_mut` a proof knows its length, and not its bytes.
+    let (_, rest) = bytes.split_at_mut_checked(at).ok_or(PastEnd)?;
+    let place = rest.first_chunk_mut().ok_or(PastEnd)?;
+    *place = word.le_bytes();
     Ok(())
 }

@@ -66,31 +66,26 @@ order_inserted w (x ∷ xs) l a t =
     order_by w x xs l a t (order_inserted w xs l (asc_parts window_first window_last x xs a).2 rest) (ltb (window_last x) (window_first w)) refl
 
 -- the first n + 1 slots, once the window was put among the first n
-module _ (ws : List Window) (n at : ℕ) (w : Window) (room : n < length ws) (here : at ≡ place_of w (take (n - 0) ws)) where
+module _ (ws : List Window) (n at : ℕ) (w : Window) (room : n < length ws) (here : at ≡ place_of w (take n ws)) where
   pub place-fits : at < length (take (n + 1 - 0) ws)
   place-fits =
-      let m : length (take (n - 0) ws) ≡ n - 0 = length-take-le (n - 0) ws (omega arith) in
+      let m : length (take n ws) ≡ n = length-take-le n ws (omega arith) in
       let k : length (take (n + 1 - 0) ws) ≡ n + 1 - 0 = length-take-le (n + 1 - 0) ws (omega arith) in
-      omega (arith, place_le w (take (n - 0) ws))
+      omega (arith, place_le w (take n ws))
 
   pub grown : (part : List Window) → part ≡ insert (take (length (take (n + 1 - 0) ws) - 1) (take (n + 1 - 0) ws)) at w → take (n + 1) (part ++ drop (n + 1 - 0) ws) ≡ insert (take n ws) (place_of w (take n ws)) w
   grown part e =
-      let zero-off : n - 0 ≡ n = omega arith in
       let k : length (take (n + 1 - 0) ws) ≡ n + 1 = length-take-le (n + 1 - 0) ws (omega arith) ∙ omega arith in
       let m : length (take n ws) ≡ n = length-take-le n ws (omega arith) in
       let less : length (take (n + 1 - 0) ws) - 1 ≡ n = omega arith in
       let low : take (length (take (n + 1 - 0) ws) - 1) (take (n + 1 - 0) ws) ≡ take n ws = ap (λ j. take j (take (n + 1 - 0) ws)) less ∙ take-take n (n + 1 - 0) ws (omega arith) in
-      let same : at ≡ place_of w (take n ws) = here ∙ ap (λ j. place_of w (take j ws)) zero-off in
-      let is : part ≡ insert (take n ws) (place_of w (take n ws)) w = e ∙ ap (λ l. insert l at w) low ∙ ap (λ j. insert (take n ws) j w) same in
+      let is : part ≡ insert (take n ws) (place_of w (take n ws)) w = e ∙ ap (λ l. insert l at w) low ∙ ap (λ j. insert (take n ws) j w) here in
       let long : length part ≡ n + 1 = ap length is ∙ length-insert (take n ws) (place_of w (take n ws)) w (place_le w (take n ws)) ∙ omega arith in
       take_at part (drop (n + 1 - 0) ws) (n + 1) long ∙ is
 
 pub accepted : (ws : List Window) (w : Window) → window_first w ≤ window_last w → overlaps_any w ws ≡ false → length ws < 16 → admission ws w ≡ Ok tt
 accepted ws w l t room =
     cond-false _ _ _ (or_from (ltb (window_last w) (window_first w)) (overlaps_any w ws) (le-ltb _ _ l) t) ∙ cond-false _ _ _ (lt-leb 16 (length ws) room)
-
-pub untouched : (w : Window) (ws : List Window) (n : ℕ) → false ≡ overlaps_any w (take (n - 0) ws) → overlaps_any w (take n ws) ≡ false
-untouched w ws n e = let off : n - 0 ≡ n = omega arith in sym (e ∙ ap (λ j. overlaps_any w (take j ws)) off)
 
 put_by : (w x : Window) (xs : List Window) (k : ℕ) (b : Bool) → put_in w xs ≡ insert xs k w → cond b (x ∷ put_in w xs) (w ∷ x ∷ xs) ≡ insert (x ∷ xs) (cond b (1 + k) 0) w
 put_by w x xs k true e = ap (λ l. x ∷ l) e ∙ ap (λ j. insert (x ∷ xs) j w) (suc-one k)

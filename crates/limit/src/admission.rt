@@ -23,11 +23,18 @@ impl WindowTable {
         }
     }
 
+    // The windows admitted.
+    fn held(&self) -> &[Window]
+        ensures { result.now ≡ held self.now }
+    {
+        &self.windows[0..self.count]
+    }
+
     // Whether `at` lies inside a window, or there is none.
     pub fn admits(&self, at: Address) -> bool
         ensures { result ≡ open_at (held self.now) at.0 }
     {
-        self.count == 0 || find(&self.windows[0..self.count], at).is_some()
+        self.count == 0 || find(self.held(), at).is_some()
     }
 
     // Takes a window in at its place, or refuses and leaves all as it was.
@@ -37,13 +44,13 @@ impl WindowTable {
         ensures grows { is_ok result ≡ true → (at : ℕ) → covered (held self.new) at ≡ (window_holds at window || covered (held self.old) at) }
     {
         let count = self.count;
-        if window.last.0 < window.first.0 || window.overlaps(&self.windows[0..count]) {
+        if window.last.0 < window.first.0 || window.overlaps(self.held()) {
             return Err(WindowRefusal::Crossing);
         }
         if count == 16 {
             return Err(WindowRefusal::Full);
         }
-        let at = window.place(&self.windows[0..count]);
+        let at = window.place(self.held());
         insert(&mut self.windows[0..count + 1], at, window);
         self.count = count + 1;
         Ok(())

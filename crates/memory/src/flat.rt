@@ -32,13 +32,7 @@ impl<'a> Memory for FlatImage<'a> {
     ghost shows = { λ s. flat_map s.start.0 s.bytes.now };
 
     fn read(&mut self, at: Address) -> Result<u8, Lacking> {
-        if at.0 < self.start.0 {
-            return Err(Lacking { at });
-        }
-        let i = at.0 - self.start.0;
-        if i >= self.bytes.len() as u64 {
-            return Err(Lacking { at });
-        }
-        Ok(self.bytes[i as usize])
+        let i = at.0.checked_sub(self.start.0).ok_or(Lacking { at })?;
+        self.bytes.get(i as usize).copied().ok_or(Lacking { at })
     }
 }

@@ -52,7 +52,7 @@ bytes_more [] js = omega arith
 bytes_more (i ∷ is) js = omega (arith, length-append (encode i) (bytes (is ++ js)), length-append (encode i) (bytes is), bytes_more is js)
 
 -- how many instructions there are
-pub enter-count : (ss : List Step) → length (enter ss) ≡ length ss
+enter-count : (ss : List Step) → length (enter ss) ≡ length ss
 unfolding forward
 enter-count [] = refl
 enter-count (s ∷ ss) = omega (arith, enter-count ss)

@@ -1,6 +1,6 @@
 -- What is counted and found among steps, by the library's words.
-use Rattle.std.proofs.Common.{◌≡◌, ℕ, zero, suc, ◌+◌, ◌<◌, cond, not, List, [], ◌∷◌, map, length, get_or, Option, Some, None, unwrap_or, refl, sym, ap, ◌∙◌, arith}
-use Rattle.std.specs.List.{count_by}
+use Rattle.std.proofs.Common.{◌≡◌, ℕ, zero, suc, ◌+◌, ◌<◌, Bool, ◌||◌, cond, not, List, [], ◌∷◌, map, length, get_or, Option, Some, None, unwrap_or, refl, sym, ap, ◌∙◌, arith}
+use Rattle.std.specs.List.{count_by, list_any}
 use Rattle.std.proofs.lemmas.List.Recursion.{is_count_by}
 use Rattle.steps.specs.declared.set_frame.SetFrameStep.{SetFrameStep}
 use Rattle.plan.specs.Steps.{step_of, other_than_push, pushed, block, frame}
@@ -73,3 +73,8 @@ frame_found r rs f = first_given (λ x. frame_of (step_of x)) (λ o. o) (λ l. f
 pub block_found : (r : Option ℕ) (rs : List StepRecord) → IsFirstGiven (λ x. size_of (step_of x)) rs r → unwrap_or r 0 ≡ block (map step_of rs)
 unfolding block
 block_found r rs f = first_given (λ x. size_of (step_of x)) (λ o. unwrap_or o 0) (λ l. block (map step_of l)) refl (λ x xs. block_one (step_of x) (map step_of xs)) r rs f
+
+-- a test of what records mean
+pub any_step_of : (p : Step → Bool) (rs : List StepRecord) → list_any (λ r. p (step_of r)) rs ≡ list_any p (map step_of rs)
+any_step_of p [] = refl
+any_step_of p (r ∷ rs) = ap (λ b. p (step_of r) || b) (any_step_of p rs)

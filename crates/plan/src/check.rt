@@ -56,7 +56,7 @@ fn check_counts(plan: &Plan<'_>) -> Result<(), PlanRefusal>
     owe(are_all_counted(plan), PlanReason::Counts, counts.len())
 }
 
-// Whether an operation calls.
+// Whether an operation calls, which is kind 3, see OperationRecord.
 fn has_call(operations: &[OperationRecord]) -> bool
     ensures { result ≡ calls operations.now }
 {
@@ -84,13 +84,13 @@ fn check_operations(
     requires { index + length operations.now < 2 ^ 64 }
     ensures { told result ≡ operations_verdict functions (map step_of steps.now) index operations.now }
 {
-    match operations
+    if let Some(i) = operations
         .iter()
         .position(|o| !is_operation(functions, steps, *o))
     {
-        None => Ok(()),
-        Some(i) => Err(PlanReason::Operation.at(index + i)),
+        return Err(PlanReason::Operation.at(index + i));
     }
+    Ok(())
 }
 
 // 12 to 17 for function `index`; `step` and `operation` are the indexes of its first.

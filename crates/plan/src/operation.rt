@@ -15,7 +15,8 @@ pub enum Operation {
     Call(u8),
 }
 
-// A kind above 3 counts as 3, which no check accepts.
+// No TryFrom, since each record gets an operation: a kind above 3 counts as 3. The check accepts no such record, and compiling
+// begins with it.
 impl From<OperationRecord> for Operation {
     ghost from_gives = { λ r o. o ≡ operation_of r };
 

@@ -27,8 +27,9 @@ pub enum PlanReason {
 }
 
 // A reason, with the index of what is refused: of the step for 12 to 15, of the operation for 17, of the function for 16 and
-// for a count over its limit; the number of functions for counts that do not match the lists; 0 for 10; and for 18 0, 1 or 2
-// for code, infos or table.
+// for a count over its limit; the number of functions for counts that do not match the lists, where no single one is meant; 0
+// for 10; and for 18 the buffer, 0, 1 or 2 for code, infos or table. A number for each, and no enum: the rules give these
+// numbers, and reports print them.
 #[derive(Clone, Copy, PartialEq, Eq, Debug)]
 pub struct PlanRefusal {
     pub reason: PlanReason,

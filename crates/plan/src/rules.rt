@@ -15,6 +15,7 @@ use layout::registers::{is_preserved, is_volatile};
 use steps::push::PushStep;
 use steps::save::SaveStep;
 
+// By the numbers of the kinds, see StepRecord.
 fn is_known(r: StepRecord) -> bool
     ensures { result ≡ known r }
 {
@@ -111,7 +112,8 @@ fn is_settable(steps: &[StepRecord], register: u8) -> bool
     (is_volatile(register) || is_kept(steps, register)) && !is_frame(steps, register)
 }
 
-// Whether an operation of a function with these steps, in a module of so many functions, keeps the rules.
+// Whether an operation of a function with these steps, in a module of so many functions, keeps the rules; by the numbers of
+// the kinds, see OperationRecord.
 pub(crate) fn is_operation(functions: usize, steps: &[StepRecord], r: OperationRecord) -> bool
     ensures { result ≡ operation_good functions (map step_of steps.now) r }
 {

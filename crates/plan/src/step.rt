@@ -20,7 +20,8 @@ pub enum Step {
     Save(SaveStep),
 }
 
-// A kind above 3 counts as 3, and a frame offset above 255 as 255, which no check accepts.
+// No TryFrom, since each record gets a step: a kind above 3 counts as 3, and a frame offset above 255 as 255. The check accepts
+// no such record, and compiling begins with it.
 impl From<StepRecord> for Step {
     ghost from_gives = { λ r s. s ≡ step_of r };
 

@@ -10,10 +10,7 @@ fn worked_function(rt: HostRuntime) -> Result<(), Fail> {
     let mut code = [0xaa; 32];
     let mut infos = [0xaa; 20];
     let mut table = [0xaa; 16];
-    let Ok(lengths) = compile_worked(&mut code, &mut infos, &mut table) else {
-        assert!(rt; false);
-        return Ok(());
-    };
+    let lengths = compile_worked(&mut code, &mut infos, &mut table)?;
     assert!(rt; lengths.code == 28);
     assert!(rt; lengths.infos == 16);
     assert!(rt; lengths.table == 12);

@@ -26,9 +26,6 @@ codes_start i it e ok =
     let long : length (codes_left it) ≡ length rest = ap length left ∙ good_length rest in
     (rest, left, good_is (codes_in i) ok ∙ ap (λ r. Ok (listed r)) (sym e), omega (arith, few_left it, it.few, long))
 
-pub not_ok : {X : Type 0} (e : InfoFault) (x : X) → ◌≡◌ {A = Result X InfoFault} (Err e) (Ok x) → ⊥
-not_ok e x h = cc
-
 pub ok_same : {X : Type 0} (x y : X) → ◌≡◌ {A = Result X InfoFault} (Ok x) (Ok y) → x ≡ y
 ok_same x y h = cc
 
@@ -80,24 +77,25 @@ module _ (f o : ℕ) where
       ∙ ap (λ r. bind r (λ us. bind (steps_of_codes f o (c ∷ [])) (λ ts. Ok (ts ++ us)))) a
       ∙ ap (λ r. bind r (λ ts. Ok (ts ++ ss))) (one_step c s b)
 
-  pub first_refused : (c : Code) (cs : List Code) (e : InfoFault) → step_of_code f o c ≡ Err e → steps_of_codes f o (c ∷ cs) ≡ Err e
+  -- of codes that begin with one
+  pub first_refused : (all cs : List Code) (c : Code) (e : InfoFault) → all ≡ c ∷ cs → step_of_code f o c ≡ Err e → steps_of_codes f o all ≡ Err e
   unfolding steps_of_codes
-  first_refused c cs e h = ap (λ r. bind r (λ s. bind (steps_of_codes f o cs) (λ ss. Ok (ss ++ s ∷ [])))) h
+  first_refused all cs c e is h = ap (steps_of_codes f o) is ∙ ap (λ r. bind r (λ s. bind (steps_of_codes f o cs) (λ ss. Ok (ss ++ s ∷ [])))) h
 
   -- a count of steps, n of which are behind
-  pub count_one : (n : ℕ) (c : Code) (cs : List Code) (s : StepRecord) → step_of_code f o c ≡ Ok s → more n (counted_in (steps_of_codes f o (c ∷ cs))) ≡ more (n + 1) (counted_in (steps_of_codes f o cs))
+  pub count_one : (n : ℕ) (all cs : List Code) (c : Code) (s : StepRecord) → all ≡ c ∷ cs → step_of_code f o c ≡ Ok s → more n (counted_in (steps_of_codes f o all)) ≡ more (n + 1) (counted_in (steps_of_codes f o cs))
   unfolding steps_of_codes
-  count_one n c cs s e = ap (λ x. more n (counted_in (bind x (λ s. bind (steps_of_codes f o cs) (λ ss. Ok (ss ++ s ∷ [])))))) e ∙ count_push n (steps_of_codes f o cs) s
+  count_one n all cs c s is e = ap (λ l. more n (counted_in (steps_of_codes f o l))) is ∙ ap (λ x. more n (counted_in (bind x (λ s. bind (steps_of_codes f o cs) (λ ss. Ok (ss ++ s ∷ [])))))) e ∙ count_push n (steps_of_codes f o cs) s
 
   pub count_none : (n : ℕ) → more n (counted_in (steps_of_codes f o [])) ≡ Ok n
   unfolding steps_of_codes
   count_none n = ap Ok (omega arith)
 
   -- the step of the first code comes last
-  pub step_first : (c : Code) (cs : List Code) (ts : List StepRecord) → steps_of_codes f o (c ∷ cs) ≡ Ok ts →
+  pub step_first : (all cs : List Code) (c : Code) (ts : List StepRecord) → all ≡ c ∷ cs → steps_of_codes f o all ≡ Ok ts →
       (s : StepRecord) × (rest : List StepRecord) × (step_of_code f o c ≡ Ok s) × (steps_of_codes f o cs ≡ Ok rest) × (ts ≡ rest ++ s ∷ [])
   unfolding steps_of_codes
-  step_first c cs ts e = first_of (step_of_code f o c) (steps_of_codes f o cs) ts e
+  step_first all cs c ts is e = first_of (step_of_code f o c) (steps_of_codes f o cs) ts (sym (ap (steps_of_codes f o) is) ∙ e)
 
 -- the codes of steps that are not refused are not refused
 pub codes_good : (r : Result (List Code) InfoFault) (g : List Code → Steps) → is_ok (bind r g) ≡ true → is_ok r ≡ true

@@ -43,7 +43,8 @@ fn check_functions(area: InfoArea<'_>, entries: &[Entry]) -> Result<usize, ReadR
     Ok(steps)
 }
 
-// Writes the steps of an entry's function from `at` on, and answers how many there are.
+// Writes the steps of an entry's function from `at` on, and answers how many there are. The place stands beside the records and
+// goes on from function to function: a Cursor is over bytes, and the clauses speak of the whole list.
 fn write_function(area: InfoArea<'_>, entry: Entry, records: &mut [StepRecord], at: usize) -> usize
     requires { (is_ok (function_steps_in area entry) ≡ true) × (at + length (found (function_steps_in area entry)) ≤ length records.old) }
     ensures after { records.new ≡ take at records.old ++ (found (function_steps_in area.entry entry) ++ drop (at + length (found (function_steps_in area.entry entry))) records.old) }

@@ -54,7 +54,8 @@ pub(crate) fn count_steps(info: &Info<'_>) -> Result<usize, ReadRefusal>
     Ok(n)
 }
 
-// Writes the steps of an info that has some, the last code's first, over the records that end at `end`.
+// Writes the steps of an info that has some, the last code's first, over the records that end at `end`: a place beside the
+// records goes on from function to function, since a Cursor is over bytes, and the clauses speak of the whole list.
 pub(crate) fn write_steps(info: &Info<'_>, records: &mut [StepRecord], end: usize)
     requires readable { (length info.now.slots.now ≤ 510) × (is_ok (steps_in (viewed info.now)) ≡ true) }
     requires room { (length (found (steps_in (viewed info.now))) ≤ end) × (end ≤ length records.old) }
@@ -62,12 +63,7 @@ pub(crate) fn write_steps(info: &Info<'_>, records: &mut [StepRecord], end: usiz
 {
     // After `iter_mut().rev().zip(..)` a proof knows nothing of the records.
     for (at, code) in (0..end).rev().zip(info.codes()) {
-        let Ok(code) = code else {
-            return;
-        };
-        let Ok(step) = step_of(info, code) else {
-            return;
-        };
+        let step = step_of(info, code.unwrap()).unwrap();
         records[at] = step;
     }
 }

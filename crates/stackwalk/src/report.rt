@@ -1,9 +1,10 @@
 // A function table for people: entries, prologues, codes in words, tails. Written line by line: the types are other crates',
 // and the words this program's, so there is no place for an impl of Display.
+ghost use Rattle.std.specs.Prelude.{◌≤◌, length};
+
 use crate::names::integer_name;
 use infos::code::{Code, Operation};
 use infos::info::{Info, Tail};
-use infos::listing::list_codes;
 use infos::reading::read_info;
 use infos::refusal::InfoRefusal;
 use layout::address::Rva;
@@ -11,9 +12,6 @@ use layout::refusal::Numbered;
 use std::io;
 use tables::area::InfoArea;
 use tables::entry::Entry;
-
-// The most codes that an info can hold.
-const CODES: usize = 255;
 
 fn show_code(rt: &impl Print, code: Code) -> io::Result<()> {
     let end = code.offset;
@@ -69,18 +67,15 @@ fn show_info_refusal(rt: &impl Print, refusal: InfoRefusal) -> io::Result<()> {
     }
 }
 
-fn show_codes(rt: &impl Print, area: InfoArea, at: Rva) -> io::Result<()> {
-    let none = Code {
-        slot: 0,
-        offset: 0,
-        operation: Operation::SetFrame,
-    };
-    let mut codes = [none; CODES];
-    let Ok(n) = list_codes(area, at, &mut codes) else {
-        return Ok(());
-    };
-    for code in codes.iter().take(n) {
-        show_code(rt, *code)?;
+// The codes of an info that was read whole, so none of them is refused.
+fn show_codes(rt: &impl Print, info: &Info) -> io::Result<()>
+    requires { length info.now.slots.now ≤ 510 }
+{
+    for code in info.codes() {
+        let Ok(code) = code else {
+            break;
+        };
+        show_code(rt, code)?;
     }
     Ok(())
 }
@@ -94,7 +89,7 @@ fn show_entry(rt: &impl Print, entry: Entry, area: InfoArea) -> io::Result<()> {
     match read_info(area, entry.info) {
         Ok(info) => {
             show_header(rt, &info)?;
-            show_codes(rt, area, entry.info)?;
+            show_codes(rt, &info)?;
             show_tail(rt, info.tail)
         }
         Err(e) => show_info_refusal(rt, e),

@@ -71,6 +71,11 @@ entries-next bs h =
 pub table_gives : (bs : List ℕ) (t : TableEntries) → t.bytes.now ≡ bs → AlwaysYields (YieldsFirst entries_left) (λ e. e) t (entries_of bs (length bs / 12))
 table_gives bs t e = (YieldsList-from_first (λ e. e) entries_left _ (ap (λ b. entries_of b (length b / 12)) e)).runs
 
+-- what a check of a table's bytes answered, where it is the answer for whatever they give
+pub table_checked : (bs : List ℕ) (t : TableEntries) (size : ℕ) (good answer : Bool) → t.bytes.now ≡ bs → ((all : List Entry) → AlwaysYields (YieldsFirst entries_left) (λ e. e) t all → good ≡ entries_good size 0 all) → good ≡ answer →
+    entries_good size 0 (entries_of bs (length bs / 12)) ≡ answer
+table_checked bs t size good answer e said is = sym (said _ (table_gives bs t e)) ∙ is
+
 -- good entries lie past their floor
 good_past : (size floor m : ℕ) (es : List Entry) → m < floor → entries_good size floor es ≡ true → past entry_first m es ≡ true
 good_past size floor m [] l g = refl

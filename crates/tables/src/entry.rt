@@ -50,8 +50,8 @@ fn is_good(entry: Entry, floor: u32, size: u64) -> bool
     entry.begin.0 < entry.end.0 && floor <= entry.begin.0 && u64::from(entry.end.0) <= size
 }
 
-// Whether the entries are in ascending order without overlap inside a module of this size. By a loop: each entry is held
-// against the end of the one before it, and the first against 0.
+// Whether the entries are in ascending order without overlap inside a module of this size: each entry is held against the end
+// of the one before it, and the first against 0. By a loop: `try_fold` would carry that end in an Option, no plainer.
 pub(crate) fn are_good<I: Iterator<Item = Entry> + Drop>(entries: I, size: u64) -> bool
     requires can { I.can_next entries }
     requires ends { IsFinite (I.remaining entries) }

@@ -4,8 +4,8 @@ ghost use Rattle.std.specs.Iterator.{YieldsFirst, item_count};
 
 use crate::entry::{Entry, entry_in};
 
-// The entries of a table, 12 bytes each; bytes that are too few for one are left out. An iterator of its own, since proofs
-// speak of the entries that are left, and `chunks_exact` has only bytes.
+// The entries of a table, 12 bytes each; bytes that are too few for one are left out. An iterator of its own: `as_chunks` with
+// a `map` gives the same, but each clause would speak of a chain of adapters in place of the entries left: no plainer.
 #[derive(Clone, Copy)]
 pub(crate) struct TableEntries<'a> {
     bytes: &'a [u8],

@@ -29,7 +29,7 @@ fn is_sound(at: usize, byte: u8) -> bool {
     let mut codes = [none; 255];
     match list_codes(area, Rva(0), &mut codes) {
         Ok(n) => n <= 6,
-        Err(e) => 40 <= e.number() && e.number() <= 45,
+        Err(e) => (40..=45).contains(&e.number()),
     }
 }
 

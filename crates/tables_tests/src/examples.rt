@@ -68,8 +68,8 @@ fn a_refused_table_changes_no_record(rt: HostRuntime) {
     assert_eq!(rt; records[1], entry(7, 8, 9));
 }
 
-fn begin_at(module: &Module, rva: u32) -> u32 {
-    module.entry_at(Rva(rva)).map_or(0, |found| found.begin.0)
+fn begin_at(module: &Module, rva: u32) -> Option<Rva> {
+    module.entry_at(Rva(rva)).map(|found| found.begin)
 }
 
 #[test]
@@ -88,13 +88,13 @@ fn an_entry_holds_its_first_byte_and_not_its_end(rt: HostRuntime) {
         },
     };
     assert_eq!(rt; module.check(), Ok(()));
-    assert_eq!(rt; begin_at(&module, 0xfff), 0);
-    assert_eq!(rt; begin_at(&module, 0x1000), 0x1000);
-    assert_eq!(rt; begin_at(&module, 0x100f), 0x1000);
-    assert_eq!(rt; begin_at(&module, 0x1010), 0x1010);
-    assert_eq!(rt; begin_at(&module, 0x1020), 0);
-    assert_eq!(rt; begin_at(&module, 0x1030), 0x1030);
-    assert_eq!(rt; begin_at(&module, 0x1031), 0);
+    assert_eq!(rt; begin_at(&module, 0xfff), None);
+    assert_eq!(rt; begin_at(&module, 0x1000), Some(Rva(0x1000)));
+    assert_eq!(rt; begin_at(&module, 0x100f), Some(Rva(0x1000)));
+    assert_eq!(rt; begin_at(&module, 0x1010), Some(Rva(0x1010)));
+    assert_eq!(rt; begin_at(&module, 0x1020), None);
+    assert_eq!(rt; begin_at(&module, 0x1030), Some(Rva(0x1030)));
+    assert_eq!(rt; begin_at(&module, 0x1031), None);
 }
 
 #[test]

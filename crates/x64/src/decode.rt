@@ -103,14 +103,10 @@ fn form_at_frame(op: u8, register: u8, frame: u8, displacement: u32) -> Option<I
     ensures { result ≡ at_frame_form op register frame displacement }
 {
     if register == 4 {
-        return if op == 0x8d {
-            Some(Instruction::LeaRspAtFrame {
-                frame,
-                displacement,
-            })
-        } else {
-            None
-        };
+        return (op == 0x8d).then_some(Instruction::LeaRspAtFrame {
+            frame,
+            displacement,
+        });
     }
     match op {
         0x89 => Some(Instruction::StoreAtFrame {
@@ -130,10 +126,7 @@ fn form_at_frame(op: u8, register: u8, frame: u8, displacement: u32) -> Option<I
 fn form_set(register: u8, value: u32) -> Option<Instruction>
     ensures { result ≡ set_form register value }
 {
-    if register == 4 {
-        return None;
-    }
-    Some(Instruction::Set { register, value })
+    (register != 4).then_some(Instruction::Set { register, value })
 }
 
 // An access at RSP or at a frame register.

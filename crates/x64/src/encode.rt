@@ -1,9 +1,8 @@
-// The bytes of an instruction, in the shortest form. Each form is written as one array: in two pieces, a head and a displacement,
-// each function wants a proof file, and is no shorter.
-ghost use Rattle.std.specs.Prelude.{◌≡◌, ◌+◌, ◌<◌, ◌≤◌, not, ◌∷◌, length, if◌then◌else◌, Some, None, nat_le};
+// The bytes of an instruction, in the shortest form.
+ghost use Rattle.std.specs.Prelude.{◌≡◌, ◌+◌, ◌<◌, ◌≤◌, not, ◌++◌, length, if◌then◌else◌, Some, None, nat_le};
 ghost use Rattle.layout.specs.Words.{overwritten};
 ghost use Rattle.layout.specs.Cursors.{HasRoom, wrote};
-ghost use Rattle.x64.specs.Encodings.{short, high, low, four, modrm, encode, one_register, on_rsp, at_rsp, at_frame};
+ghost use Rattle.x64.specs.Encodings.{short, high, spelled, mode, encode, one_register, on_rsp, at_rsp, at_frame};
 ghost use Rattle.x64.specs.Laws.{EncodesApart};
 
 use crate::instruction::Instruction;
@@ -13,13 +12,20 @@ use layout::cursor::Cursor;
 fn is_short(d: u32) -> bool
     ensures { result ≡ short d }
 {
-    d < 128 || d >= 0xffff_ff80
+    i8::try_from(d.cast_signed()).is_ok()
 }
 
 fn upper(r: u8) -> u8
     ensures { result ≡ high r }
 {
     u8::from(r >= 8)
+}
+
+// The mode that says how wide a displacement is.
+fn mode(wide: bool) -> u8
+    ensures { result ≡ mode wide }
+{
+    if wide { 2 } else { 1 }
 }
 
 // push or pop: the operation with the register, after 41 for the upper registers
@@ -35,17 +41,24 @@ fn emit_register(out: &mut Cursor, op: u8, r: u8)
     }
 }
 
+// The head of a form, and after it a displacement in four bytes or in one.
+fn emit_form(out: &mut Cursor, head: &[u8], wide: bool, d: u32)
+    requires { HasRoom out.old (head.now ++ spelled wide d) }
+    ensures { out.new ≡ wrote out.old (head.now ++ spelled wide d) }
+{
+    out.put(head);
+    let size = if wide { 4 } else { 1 };
+    out.put(&d.to_le_bytes()[..size])
+}
+
 // add or sub RSP
 fn emit_on_rsp(out: &mut Cursor, op: u8, d: u32)
     requires { HasRoom out.old (on_rsp op (not (short d)) d) }
     ensures { out.new ≡ wrote out.old (on_rsp op (not (short d)) d) }
 {
-    let [b0, b1, b2, b3] = d.to_le_bytes();
-    if is_short(d) {
-        out.put(&[0x48, 0x83, op, b0])
-    } else {
-        out.put(&[0x48, 0x81, op, b0, b1, b2, b3])
-    }
+    let wide = !is_short(d);
+    let opcode = if wide { 0x81 } else { 0x83 };
+    emit_form(out, &[0x48, opcode, op], wide, d)
 }
 
 // store, load or lea at RSP
@@ -53,13 +66,10 @@ fn emit_at_rsp(out: &mut Cursor, op: u8, r: u8, d: u32)
     requires { HasRoom out.old (at_rsp op (not (short d)) r d) }
     ensures { out.new ≡ wrote out.old (at_rsp op (not (short d)) r d) }
 {
+    let wide = !is_short(d);
     let rex = 0x48 + 4 * upper(r);
-    let [b0, b1, b2, b3] = d.to_le_bytes();
-    if is_short(d) {
-        out.put(&[rex, op, 64 + 8 * (r % 8) + 4, 0x24, b0])
-    } else {
-        out.put(&[rex, op, 128 + 8 * (r % 8) + 4, 0x24, b0, b1, b2, b3])
-    }
+    let m = 64 * mode(wide) + 8 * (r % 8) + 4;
+    emit_form(out, &[rex, op, m, 0x24], wide, d)
 }
 
 // store, load or lea at a frame register
@@ -67,29 +77,10 @@ fn emit_at_frame(out: &mut Cursor, op: u8, r: u8, f: u8, d: u32)
     requires { HasRoom out.old (at_frame op (not (short d)) r f d) }
     ensures { out.new ≡ wrote out.old (at_frame op (not (short d)) r f d) }
 {
+    let wide = !is_short(d);
     let rex = 0x48 + 4 * upper(r) + upper(f);
-    let [b0, b1, b2, b3] = d.to_le_bytes();
-    if is_short(d) {
-        out.put(&[rex, op, 64 + 8 * (r % 8) + f % 8, b0])
-    } else {
-        out.put(&[rex, op, 128 + 8 * (r % 8) + f % 8, b0, b1, b2, b3])
-    }
-}
-
-fn emit_set(out: &mut Cursor, r: u8, d: u32)
-    requires { HasRoom out.old ((72 + high r) ∷ 199 ∷ modrm 3 0 (low r) ∷ four d) }
-    ensures { out.new ≡ wrote out.old ((72 + high r) ∷ 199 ∷ modrm 3 0 (low r) ∷ four d) }
-{
-    let [b0, b1, b2, b3] = d.to_le_bytes();
-    out.put(&[0x48 + upper(r), 0xc7, 192 + r % 8, b0, b1, b2, b3])
-}
-
-fn emit_call(out: &mut Cursor, d: u32)
-    requires { HasRoom out.old (232 ∷ four d) }
-    ensures { out.new ≡ wrote out.old (232 ∷ four d) }
-{
-    let [b0, b1, b2, b3] = d.to_le_bytes();
-    out.put(&[0xe8, b0, b1, b2, b3])
+    let m = 64 * mode(wide) + 8 * (r % 8) + f % 8;
+    emit_form(out, &[rex, op, m], wide, d)
 }
 
 // Writes an instruction, for which there is room.
@@ -128,9 +119,12 @@ pub fn emit(out: &mut Cursor, i: Instruction)
             frame,
             displacement,
         } => emit_at_frame(out, 0x8d, 4, frame, displacement),
-        Instruction::Set { register, value } => emit_set(out, register, value),
+        Instruction::Set { register, value } => {
+            let head = [0x48 + upper(register), 0xc7, 192 + register % 8];
+            emit_form(out, &head, true, value)
+        }
         Instruction::Nop => out.put(&[0x90]),
-        Instruction::Call(d) => emit_call(out, d),
+        Instruction::Call(d) => emit_form(out, &[0xe8], true, d),
         Instruction::Ret => out.put(&[0xc3]),
     }
 }

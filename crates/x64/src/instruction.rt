@@ -1,4 +1,5 @@
-// The instruction set. Registers are by number; displacements and immediates are 32 signed bits as their pattern.
+// The instruction set. Registers are by number, any number: a type of their own would be narrower than what callers may
+// give today. Displacements and immediates are 32 signed bits as their pattern.
 
 #[derive(Clone, Copy, PartialEq, Eq, Debug)]
 pub enum Instruction {

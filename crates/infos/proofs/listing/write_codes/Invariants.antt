@@ -1,5 +1,6 @@
-use Rattle.std.proofs.Common.{◌≡◌, ◌++◌, ◌≤◌, map, length, drop, take, Ok}
+use Rattle.std.proofs.Common.{◌≡◌, map, drop, Ok}
 use Rattle.std.specs.Iterator.Adapters.{enumerate_source, enumerate_count}
+use Rattle.tables.proofs.Fill.{Filled}
 use Rattle.infos.specs.Codings.{codes_left}
 use Rattle.infos.specs.Listings.{listed}
 use Rattle.infos.specs.Sequences.{gathered}
@@ -12,7 +13,6 @@ invariant-loop-k l =
     record {
       can : (goal.iterator-loop-k).can_next l.k-iterator;
       ends : (goal.iterator-loop-k).is_finite l.k-iterator;
-      within : k ≤ length all;
       left : codes_left (enumerate_source l.k-iterator) ≡ map Ok (drop k all);
-      written : l.records ≡ take k all ++ drop k l.initial.records;
+      filled : Filled all l.initial.records l.records k;
     }

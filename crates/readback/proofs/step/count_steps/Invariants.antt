@@ -10,6 +10,11 @@ use Rattle.readback.proofs.step.count_steps.Given as goal
 abbrev pub invariant-loop-code : goal.invariant-loop-code
 invariant-loop-code l =
     let i = viewed l.info in
-    (goal.iterator-loop-code).can_next l.code-iterator × (goal.iterator-loop-code).is_finite l.code-iterator
-    × ((rest : List Code) × (codes_left l.code-iterator ≡ map Ok rest) × (l.n + length rest ≤ 255)
-    × (counted_in (steps_in i) ≡ more l.n (counted_in (steps_of_codes i.frame_register i.frame_offset rest))))
+    record {
+      can : (goal.iterator-loop-code).can_next l.code-iterator;
+      ends : (goal.iterator-loop-code).is_finite l.code-iterator;
+      rest : List Code;
+      left : codes_left l.code-iterator ≡ map Ok rest;
+      few : l.n + length rest ≤ 255;
+      counts : counted_in (steps_in i) ≡ more l.n (counted_in (steps_of_codes i.frame_register i.frame_offset rest));
+    }

@@ -12,7 +12,16 @@ abbrev pub invariant-loop-at : goal.invariant-loop-at
 invariant-loop-at l =
     let i = viewed l.info in
     let places = rev_source (zip_first l.at-iterator) in
-    (goal.iterator-loop-at).can_next l.at-iterator × (goal.iterator-loop-at).is_finite l.at-iterator × (places.start ≡ 0)
-    × ((rest : List Code) × (ts : List StepRecord) × (ss : List StepRecord) × (codes_left (zip_second l.at-iterator) ≡ map Ok rest)
-    × (steps_of_codes i.frame_register i.frame_offset rest ≡ Ok ts) × (found (steps_in i) ≡ ts ++ ss) × (places.end + length ss ≡ l.end)
-    × (l.records ≡ take places.end l.initial.records ++ (ss ++ drop l.end l.initial.records)))
+    record {
+      can : (goal.iterator-loop-at).can_next l.at-iterator;
+      ends : (goal.iterator-loop-at).is_finite l.at-iterator;
+      from : places.start ≡ 0;
+      rest : List Code;
+      steps : List StepRecord;
+      done : List StepRecord;
+      left : codes_left (zip_second l.at-iterator) ≡ map Ok rest;
+      means : steps_of_codes i.frame_register i.frame_offset rest ≡ Ok steps;
+      all : found (steps_in i) ≡ steps ++ done;
+      size : places.end + length done ≡ l.end;
+      written : l.records ≡ take places.end l.initial.records ++ (done ++ drop l.end l.initial.records);
+    }

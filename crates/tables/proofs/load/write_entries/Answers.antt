@@ -1,10 +1,10 @@
-use Rattle.std.proofs.Common.{◌≡◌, ℕ, ◌+◌, ◌*◌, ◌/◌, ◌<◌, ◌++◌, List, length, take, drop, set, arith, inl, refl, ap, ◌∙◌, sym}
+use Rattle.std.proofs.Common.{◌≡◌, ℕ, ◌+◌, ◌*◌, ◌/◌, ◌<◌, ◌++◌, List, length, drop, arith, inl, refl, ap, ◌∙◌, sym}
 use Rattle.std.specs.Iterator.Adapters.{enumerate_source, enumerate_count}
-use Rattle.std.proofs.lemmas.List.{length-drop, take_all}
+use Rattle.std.proofs.lemmas.List.{length-drop}
 use Rattle.std.proofs.lemmas.List.FromFn.{length-map-range_with_len}
 use Rattle.tables.specs.Entries.{entry_at, entries_of}
 use Rattle.tables.specs.Tables.{entries_left}
-use Rattle.tables.proofs.Fill.{below, left_next, put_from}
+use Rattle.tables.proofs.Fill.{below, left_next, filled_none, filled_more, filled_all}
 use Rattle.tables.proofs.load.write_entries.Goals as goal
 
 long : (bs : List ℕ) → length (entries_of bs (length bs / 12)) ≡ length bs / 12
@@ -17,14 +17,7 @@ loop-k-init c =
     let none : enumerate_count c.into_iter-k-iterator.result ≡ 0 = ap enumerate_count same ∙ c.enumerate-k-items.ensures.count in
     let source = ap enumerate_source same ∙ c.enumerate-k-items.ensures.source in
     let all : entries_left (enumerate_source c.into_iter-k-iterator.result) ≡ entries_of bs (length bs / 12) = ap entries_left source ∙ ap (λ b. entries_of b (length b / 12)) c.new.ensures in
-    rw (none, all)
-    record {
-      can = (tt, tt, inl (omega (arith, long bs)));
-      ends = tt;
-      within = omega arith;
-      left = refl;
-      written = refl;
-    }
+    rw (none, all) record { can = (tt, tt, inl (omega (arith, long bs))); ends = tt; left = refl; filled = filled_none _ _ }
 
 pub bounds-records-k : goal.bounds-records-k
 bounds-records-k c =
@@ -47,16 +40,13 @@ loop-k-preserved c =
     record {
       can = (tt, tt, inl (omega (arith, long bs, length-drop (k + 1) all)));
       ends = tt;
-      within = omega arith;
       left = refl;
-      written = ap (λ r. set r k c.in-Some.entry) c.loop-k.invariant.written ∙ put_from all k _ _ left c.args.records.now (omega (arith, long bs));
+      filled = filled_more all _ _ k (omega (arith, long bs)) c.loop-k.invariant.filled _ _ left;
     }
 
 pub returns : goal.returns
 returns c =
     let bs = c.args.bytes.now in
     let all = entries_of bs (length bs / 12) in
-    let k = enumerate_count c.loop-k.k-iterator in
-    let e = ap length (sym c.loop-k.invariant.left ∙ c.in-None.ensures.steps.0.0) in
-    let end : k ≡ length bs / 12 = omega (arith, e, length-drop k all, long bs, c.loop-k.invariant.within) in
-    c.loop-k.invariant.written ∙ ap (λ n. take n all ++ drop n c.args.records.now) end ∙ ap (λ l. l ++ drop (length bs / 12) c.args.records.now) (take_all (length bs / 12) all (omega (arith, long bs)))
+    let none = sym c.loop-k.invariant.left ∙ c.in-None.ensures.steps.0.0 in
+    filled_all all c.args.records.now _ _ c.loop-k.invariant.filled none ∙ ap (λ n. all ++ drop n c.args.records.now) (long bs)

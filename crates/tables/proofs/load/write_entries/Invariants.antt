@@ -1,7 +1,8 @@
-use Rattle.std.proofs.Common.{◌≡◌, ◌/◌, ◌++◌, ◌≤◌, length, drop, take}
+use Rattle.std.proofs.Common.{◌≡◌, ◌/◌, length, drop}
 use Rattle.std.specs.Iterator.Adapters.{enumerate_source, enumerate_count}
 use Rattle.tables.specs.Entries.{entries_of}
 use Rattle.tables.specs.Tables.{entries_left}
+use Rattle.tables.proofs.Fill.{Filled}
 use Rattle.tables.proofs.load.write_entries.Given as goal
 
 abbrev pub invariant-loop-k : goal.invariant-loop-k
@@ -11,7 +12,6 @@ invariant-loop-k l =
     record {
       can : (goal.iterator-loop-k).can_next l.k-iterator;
       ends : (goal.iterator-loop-k).is_finite l.k-iterator;
-      within : k ≤ length all;
       left : entries_left (enumerate_source l.k-iterator) ≡ drop k all;
-      written : l.records ≡ take k all ++ drop k l.initial.records;
+      filled : Filled all l.initial.records l.records k;
     }

@@ -1,4 +1,4 @@
-use Rattle.std.proofs.Common.{◌≡◌, ◌-◌, ◌<◌, true, length, take, is_some, sym, ap, ◌∙◌, arith}
+use Rattle.std.proofs.Common.{◌<◌, length, take, is_some, sym, ap, ◌∙◌, arith}
 use Rattle.std.proofs.lemmas.List.{length-take-le}
 use Rattle.records.specs.Spans.{found}
 use Rattle.limit.specs.Windows.{window_first, window_last, in_order}
@@ -10,8 +10,7 @@ returns-else-self-eq0 c =
     let t = c.args.self.now in
     let ws = take t.count t.windows in
     let at = c.args.at.0 in
-    let off : t.count - 0 ≡ t.count = omega arith in
-    let order : in_order (take (t.count - 0) t.windows) ≡ true = ap (λ n. in_order (take n t.windows)) off ∙ t.ok.1 in
+    let is = c.held.ensures in
     let some : 0 < length ws = omega (arith, length-take-le t.count t.windows (omega arith)) in
-    let finds = c.find.ensures.finds order ∙ ap (λ n. found window_first window_last at (take n t.windows)) off in
+    let finds = c.find.ensures.finds (ap in_order is ∙ t.ok.1) ∙ ap (found window_first window_last at) is in
     c.is_some.ensures ∙ ap is_some finds ∙ sym (open_covered ws at some ∙ covered-found ws at)
