@@ -136,8 +136,7 @@ impl<'a> Processor<'a> {
         ensures { self.new ≡ in_state self.old (record (state_of self.old) { stack = stack_after intent self.old.low self.old.stack.now }) }
     {
         if let Some(Access::Store { at, value }) = intent.access {
-            // Not refused: the word lies in the area.
-            let _ = write_word(self.stack, (at - self.low) as usize, value);
+            write_word(self.stack, (at - self.low) as usize, value).unwrap();
         }
     }
 

@@ -51,7 +51,7 @@ impl<'a> Codes<'a> {
         Ok(((code, used), sofar))
     }
 
-    // How many codes there are, if all are good.
+    // How many codes there are, if all are good. By a loop, which `?` ends at the first that is refused.
     pub fn check(self) -> Result<usize, InfoRefusal>
         ensures { told result ≡ counted (gathered (codes_left self.entry)) }
     {

@@ -1,5 +1,5 @@
 // The view of an unwind info.
-ghost use Rattle.std.specs.Prelude.{◌≡◌, ◌≤◌, length};
+ghost use Rattle.std.specs.Prelude.{◌≡◌, ◌≤◌, length, take};
 ghost use Rattle.infos.specs.Sequences.{codes_of, gathered};
 
 use crate::codes::Codes;
@@ -7,7 +7,8 @@ use layout::address::Rva;
 use tables::entry::Entry;
 
 // What stands after the slots.
-// Three cases, each with what it borrows: an Option of two would say the same with one more name.
+// One enum of the format's three cases, as this project wants it, and not an Option of two: whoever looks tells all three
+// apart at once.
 #[derive(Clone, Copy)]
 pub enum Tail<'a> {
     None,
@@ -23,7 +24,7 @@ pub struct Info<'a> {
     // As the header has them: reports print them, and the tail does not tell 1, 2 and 3 apart.
     pub flags: u8,
     pub prologue: u8,
-    // The header's number; the slots hold two bytes for each.
+    // The header's number, as the view promises it; the slots hold two bytes for each.
     pub count: u8,
     // 0 where there is none, as the format has it and as reports print it: no Option, since the number is the format's.
     pub frame_register: u8,
@@ -37,12 +38,12 @@ pub struct Info<'a> {
 impl<'a> Info<'a> {
     ghost use Rattle.infos.specs.Codings.{codes_left};
 
-    // Its codes, one by one. The bound, which `read_info` promises, is no invariant: the fields are public, and one would ask more
-    // of whoever makes an info.
+    // Its codes, one by one. An info has at most 255 slots; what a caller's own has past them is left out.
     pub fn codes(&self) -> Codes<'a>
-        requires { length self.now.slots.now ≤ 510 }
-        ensures { gathered (codes_left result) ≡ codes_of self.now.prologue self.now.frame_register self.now.slots.now }
+        ensures value { gathered (codes_left result) ≡ codes_of self.now.prologue self.now.frame_register (take 510 self.now.slots.now) }
+        ensures whole { length self.now.slots.now ≤ 510 → gathered (codes_left result) ≡ codes_of self.now.prologue self.now.frame_register self.now.slots.now }
     {
-        Codes::new(self.slots, self.prologue, self.frame_register)
+        let most = usize::min(510, self.slots.len());
+        Codes::new(&self.slots[..most], self.prologue, self.frame_register)
     }
 }

@@ -1,6 +1,7 @@
 // Bytes of compiled functions.
 use crate::plans::{answer, operation, step};
 use compile::compile::compile;
+use compile::lengths::Lengths;
 use plan::text::{Counts, Plan};
 use std::test::Fail;
 use worked::example::compile_worked;
@@ -11,9 +12,12 @@ fn worked_function(rt: HostRuntime) -> Result<(), Fail> {
     let mut infos = [0xaa; 20];
     let mut table = [0xaa; 16];
     let lengths = compile_worked(&mut code, &mut infos, &mut table)?;
-    assert!(rt; lengths.code == 28);
-    assert!(rt; lengths.infos == 16);
-    assert!(rt; lengths.table == 12);
+    let expected = Lengths {
+        code: 28,
+        infos: 16,
+        table: 12,
+    };
+    assert!(rt; lengths == expected);
     assert!(rt;
         code[..28]
             == [

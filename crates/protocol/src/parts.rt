@@ -9,7 +9,7 @@ use crate::bad::Bad;
 use std::marker::Model;
 
 // What is still to be cut: none once the last part was handed out. The library's `split` has a closure in its type, which
-// no field can name.
+// `new` could not name in its result.
 #[derive(Drop)]
 pub struct Parts<'a> {
     rest: Option<&'a [u8]>,

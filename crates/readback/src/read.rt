@@ -31,7 +31,7 @@ fn check_function(area: InfoArea<'_>, entry: Entry) -> Result<usize, ReadRefusal
     count_steps(&info)
 }
 
-// How many steps the functions of all entries have.
+// How many steps the functions of all entries have. By a loop, which `?` ends at the first that is refused.
 fn check_functions(area: InfoArea<'_>, entries: &[Entry]) -> Result<usize, ReadRefusal>
     requires { length entries.now ≤ 65536 }
     ensures { told result ≡ joint_count (read_steps_in area.entry entries.now) }
@@ -69,7 +69,7 @@ fn write_functions(
     ensures steps { steps.new ≡ joint (found (read_steps_in area.entry entries.now)) ++ drop (length (joint (found (read_steps_in area.entry entries.now)))) steps.old }
 {
     let mut at = 0;
-    // After `iter_mut().zip(..)` a proof knows nothing of the counts.
+    // After `iter_mut().zip(..)` a proof knows nothing of the counts, so one of the two lists goes by an index.
     for (k, entry) in entries.iter().enumerate() {
         let n = write_function(area, *entry, steps, at);
         functions[k] = Counts {

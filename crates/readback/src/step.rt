@@ -40,7 +40,7 @@ fn step_of(info: &Info<'_>, code: Code) -> Result<StepRecord, ReadRefusal>
     }
 }
 
-// How many steps an info whose codes are good has: each code is one.
+// How many steps an info whose codes are good has: each code is one. By a loop, which `?` ends at the first that is refused.
 pub(crate) fn count_steps(info: &Info<'_>) -> Result<usize, ReadRefusal>
     requires { (length info.now.slots.now ≤ 510) × (is_ok (codes_in (viewed info.now)) ≡ true) }
     ensures value { told result ≡ counted_in (steps_in (viewed info.now)) }

@@ -1,7 +1,5 @@
 // A function table for people: entries, prologues, codes in words, tails. Written line by line: the types are other crates',
-// and the words this program's, so there is no place for an impl of Display.
-ghost use Rattle.std.specs.Prelude.{◌≤◌, length};
-
+// and a struct around each for an impl of Display is no plainer.
 use crate::names::integer_name;
 use infos::code::{Code, Operation};
 use infos::info::{Info, Tail};
@@ -67,10 +65,8 @@ fn show_info_refusal(rt: &impl Print, refusal: InfoRefusal) -> io::Result<()> {
     }
 }
 
-// The codes of an info that was read whole, so none of them is refused.
-fn show_codes(rt: &impl Print, info: &Info) -> io::Result<()>
-    requires { length info.now.slots.now ≤ 510 }
-{
+// The codes of an info that was read whole. So none of them is refused, which is not proved here; one that were would be the last.
+fn show_codes(rt: &impl Print, info: &Info) -> io::Result<()> {
     for code in info.codes() {
         let Ok(code) = code else {
             break;

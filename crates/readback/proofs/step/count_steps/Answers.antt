@@ -13,7 +13,7 @@ use Rattle.readback.proofs.step.count_steps.Goals as goal
 pub loop-code-init : goal.loop-code-init
 loop-code-init c =
     let i = viewed c.args.info.now in
-    let s = codes_start i c.into_iter-code-iterator.result (ap (λ it. gathered (codes_left it)) c.into_iter-code-iterator.ensures.into_iter_gives ∙ c.codes-code-items.ensures) c.requires.1 in
+    let s = codes_start i c.into_iter-code-iterator.result (ap (λ it. gathered (codes_left it)) c.into_iter-code-iterator.ensures.into_iter_gives ∙ c.codes-code-items.ensures.whole c.requires.0) c.requires.1 in
     record {
       can = tt;
       ends = tt;

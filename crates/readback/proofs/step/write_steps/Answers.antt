@@ -17,7 +17,7 @@ loop-at-init c =
     let old = c.args.records.now in
     let same = c.into_iter-at-iterator.ensures.into_iter_gives in
     let first : rev_source (zip_first c.into_iter-at-iterator.result) ≡ record { start = 0; end = c.args.end } = ap (λ z. rev_source (zip_first z)) same ∙ ap rev_source c.zip-at-items.ensures.first ∙ c.rev.ensures.source in
-    let second : gathered (codes_left (zip_second c.into_iter-at-iterator.result)) ≡ codes_in i = ap (λ z. gathered (codes_left (zip_second z))) same ∙ ap (λ it. gathered (codes_left it)) c.zip-at-items.ensures.second ∙ c.codes.ensures in
+    let second : gathered (codes_left (zip_second c.into_iter-at-iterator.result)) ≡ codes_in i = ap (λ z. gathered (codes_left (zip_second z))) same ∙ ap (λ it. gathered (codes_left it)) c.zip-at-items.ensures.second ∙ c.codes.ensures.whole c.requires.readable.0 in
     let s = codes_start i (zip_second c.into_iter-at-iterator.result) second (codes_good (codes_in i) _ c.requires.readable.1) in
     rw first
     record {
