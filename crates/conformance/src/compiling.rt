@@ -3,16 +3,10 @@ use crate::planning::Description;
 use crate::short::count;
 use crate::stop::Stop;
 use compile::compile::compile;
+use compile::lengths::MOST;
 use protocol::parts::Parts;
 use protocol::write::push_bytes;
 use std::alloc::{AllocError, Global};
-
-// More than a module of 64 functions can fill, each of at most 10 steps and 255 operations. A longer buffer makes no difference.
-const MAX_CODE: usize = 163_840;
-
-const MAX_INFOS: usize = 8192;
-
-const MAX_TABLE: usize = 768;
 
 // The first bytes of a buffer, after a space.
 fn push_written(line: &mut Vec<u8>, mut buffer: Vec<u8>, length: usize) -> Result<(), AllocError> {
@@ -23,9 +17,10 @@ fn push_written(line: &mut Vec<u8>, mut buffer: Vec<u8>, length: usize) -> Resul
 
 pub fn compile_request(heap: Global, mut fields: Parts, line: &mut Vec<u8>) -> Result<(), Stop> {
     let description = Description::read(heap, &mut fields)?;
-    let code_room = count(fields.part()?, MAX_CODE)?;
-    let info_room = count(fields.part()?, MAX_INFOS)?;
-    let table_room = count(fields.part()?, MAX_TABLE)?;
+    // A longer buffer makes no difference.
+    let code_room = count(fields.part()?, MOST.code)?;
+    let info_room = count(fields.part()?, MOST.infos)?;
+    let table_room = count(fields.part()?, MOST.table)?;
     fields.end()?;
     let mut code = vec![in heap; 0u8; code_room]?;
     let mut infos = vec![in heap; 0u8; info_room]?;

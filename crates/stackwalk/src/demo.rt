@@ -1,4 +1,5 @@
 // What the program does with no arguments.
+use crate::compiled::show_plan;
 use crate::memories::show_memories;
 use crate::tables_of::show_table;
 use layout::address::Rva;
@@ -19,11 +20,33 @@ const INFOS: [u8; 60] = [
     0, // 0x2028
 ];
 
+// A description of two functions.
+const PLAN: &str = "
+# A frame register, and a save.
+function noon
+    push RBP
+    push RBX
+    allocate 56
+    frame RBP 32
+    save RSI 40
+    nop
+
+# Calls, so RSP is aligned and 32 bytes are below the save.
+function day
+    push R12
+    allocate 48
+    save RDI 40
+    set R11 -5
+    call noon
+";
+
 pub fn show_all(rt: &HostRuntime) -> anyhow::Result<()> {
     show_memories(rt)?;
     let area = InfoArea {
         bytes: &INFOS,
         start: Rva(0x2000),
     };
-    show_table(rt, &TABLE, area, 0x203c)
+    show_table(rt, &TABLE, area, 0x203c)?;
+    println!(rt; "A description of two functions, compiled:")?;
+    show_plan(rt, PLAN)
 }

@@ -8,6 +8,7 @@ use tables::area::InfoArea;
 use tables::entry::Entry;
 use tables::load::load_table;
 use tables::module::Extent;
+use tables::refusal::TableRefusal;
 
 // A number in decimal, or in hexadecimal after `0x`.
 fn number(rt: &HostRuntime, text: &str) -> anyhow::Result<u64> {
@@ -25,20 +26,35 @@ fn bytes_of(rt: &HostRuntime, path: &str) -> anyhow::Result<Vec<u8>> {
         .with_context(|| format!(in rt.alloc(); "cannot read the file {path}"))
 }
 
-// Loads the table, and reports its entries with their infos.
-pub fn show_table(rt: &HostRuntime, table: &[u8], area: InfoArea, size: u64) -> anyhow::Result<()> {
+// The text of a file.
+pub fn text_of(rt: &HostRuntime, path: &str) -> anyhow::Result<String> {
+    let read = fs::read_to_string(rt, path);
+    read.ok().with_context(|| format!(in rt.alloc(); "cannot read the file {path} as text"))
+}
+
+// The entries of a table.
+pub fn entries_of(
+    rt: &HostRuntime,
+    table: &[u8],
+    extent: Extent,
+) -> anyhow::Result<Result<Vec<Entry>, TableRefusal>> {
     let none = Entry {
         begin: Rva(0),
         end: Rva(0),
         info: Rva(0),
     };
     let mut records = vec![in rt.alloc(); none; table.len() / 12]?;
+    Ok(load_table(table, extent, records.as_mut_slice()).map(|_| records))
+}
+
+// Loads the table, and reports its entries with their infos.
+pub fn show_table(rt: &HostRuntime, table: &[u8], area: InfoArea, size: u64) -> anyhow::Result<()> {
     let extent = Extent {
         base: Address(0),
         size,
     };
-    match load_table(table, extent, records.as_mut_slice()) {
-        Ok(_) => Ok(show_entries(rt, records.as_slice(), area)?),
+    match entries_of(rt, table, extent)? {
+        Ok(entries) => Ok(show_entries(rt, entries.as_slice(), area)?),
         Err(e) => Ok(show_refusal(rt, "table", &e)?),
     }
 }
