@@ -1222,6 +1222,25 @@ readback 00 0 - => refused 35
 {at_both(EXAMPLE, CHAIN)} => refused 42
 {readback_line([(1, 2, 0x2001), (2, 3, 0x2000)], 0x2000, VERSION)} => refused 40
 {readback_line([(1, 2, 0x2000), (2, 3, 0x2001)], 0x2000, VERSION)} => refused 41
+
+# Lines that cannot be read.
+readback => bad
+readback - => bad
+readback - 0 => bad
+readback - 0 - - => bad
+readback  - 0 - => bad
+readbacks - 0 - => bad
+readback 0 0 - => bad
+readback 0g 0 - => bad
+readback 0A 0 - => bad
+readback - x - => bad
+readback - -1 - => bad
+readback - 4294967296 - => bad
+readback - 0x100000000 - => bad
+readback - 0 0 => bad
+readback - 0 0x00 => bad
+readback - 0 -- => bad
+readback 0 x - => bad
 """
 
 
