@@ -1,0 +1,4 @@
+// Undoing one frame of a stopped program.
+#![tactic(auto)]
+
+pub mod epilogue;
