@@ -7,7 +7,7 @@ use Rattle.layout.specs.declared.address.Address.{Address}
 use Rattle.memory.specs.Byte.{Byte, shown, lacking}
 use Rattle.memory.specs.Reads.{answer}
 use Rattle.memory.specs.declared.reading.Lacking.{Lacking}
-use Rattle.unwind.specs.Epilogues.{read_at, going_on, next, actions, found}
+use Rattle.unwind.specs.Epilogues.{read_at, going_on, next, actions, found, listed}
 use Rattle.unwind.specs.declared.epilogue.Action.{Action}
 use Rattle.unwind.specs.declared.epilogue.Part.{Part}
 use Rattle.unwind.specs.declared.epilogue.Next.{Next}
@@ -36,6 +36,22 @@ found_whole : (a : Action) (r : Result (Option (List Action)) ℕ) → found (re
 found_whole a (Ok None) = refl
 found_whole a (Ok (Some xs)) = refl
 found_whole a (Err e) = refl
+
+abbrev pub Unfound : Result Bool ℕ → Bool
+Unfound (Ok b) = b
+Unfound (Err e) = false
+
+listed_whole : (a : Action) (r : Result (Option (List Action)) ℕ) → found r ≡ Ok true → listed (result_map_both (option_map (λ rest. a ∷ rest)) (λ e. e) r) ≡ a ∷ listed r
+listed_whole a (Ok None) h = absurd (true≢false (sym (ap Unfound h)))
+listed_whole a (Ok (Some xs)) h = refl
+listed_whole a (Err e) h = absurd (true≢false (sym (ap Unfound h)))
+
+-- one that is found is neither refused nor missing
+pub not_refused : (e : ℕ) → Err e ≡ Ok true → ⊥
+not_refused e h = true≢false (sym (ap Unfound h))
+
+pub not_missing : ◌≡◌ {A = Result Bool ℕ} (Ok false) (Ok true) → ⊥
+not_missing h = true≢false (sym (ap Unfound h))
 
 -- one byte more, at the address of a read
 module _ (f : ℕ) (shows : ℕ → Byte) (p : Part) (a : Address) (left : ℕ) (h : 1 ≤ left) where
@@ -68,6 +84,15 @@ module _ (f : ℕ) (shows : ℕ → Byte) (p : Part) (a : Address) (left : ℕ) 
 
     pub goes_whole : (act : Action) (q : Part) → n ≡ Whole act q → found (actions f p a.0 left shows) ≡ found (later q)
     goes_whole act q e = ap found (turned ∙ ap (λ k. going_on k later) e) ∙ found_whole act (later q)
+
+    pub lists_on : (q : Part) → n ≡ On q → listed (actions f p a.0 left shows) ≡ listed (later q)
+    lists_on q e = ap listed (turned ∙ ap (λ k. going_on k later) e)
+
+    pub lists_whole : (act : Action) (q : Part) → n ≡ Whole act q → found (later q) ≡ Ok true → listed (actions f p a.0 left shows) ≡ act ∷ listed (later q)
+    lists_whole act q e h = ap listed (turned ∙ ap (λ k. going_on k later) e) ∙ listed_whole act (later q) h
+
+    pub lists_none : n ≡ Found → listed (actions f p a.0 left shows) ≡ []
+    lists_none e = ap listed (turned ∙ ap (λ k. going_on k later) e)
 
 pub nothing_left : (f : ℕ) (shows : ℕ → Byte) (p : Part) (at left : ℕ) → left ≡ 0 → Ok false ≡ found (actions f p at left shows)
 unfolding actions

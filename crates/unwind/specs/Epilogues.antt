@@ -70,3 +70,9 @@ actions f p at (suc left) shows = read_at (shows at) at (λ b. going_on (next f 
 -- whether there is one
 abbrev pub found : Result (Option (List Action)) ℕ → Result Bool ℕ
 found r = result_map_both is_some (λ e. e) r
+
+-- what it does, if there is one
+abbrev pub listed : Result (Option (List Action)) ℕ → List Action
+listed (Ok (Some xs)) = xs
+listed (Ok None) = []
+listed (Err e) = []

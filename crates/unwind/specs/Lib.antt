@@ -1,1 +1,3 @@
+pub mod Carrying
 pub mod Epilogues
+pub mod Undoing

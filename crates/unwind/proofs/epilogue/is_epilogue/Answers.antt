@@ -64,8 +64,8 @@ loop-i-preserved g c =
     let moved = ap (λ k. found (actions c.args.frame q k (left - 1) s)) at ∙ ap (λ n. found (actions c.args.frame q (c.args.start.0 + (c.loop-i.i + 1)) n s)) rest in
     let same = c.in_ok-b.ensures.same ∙ inv.1 in
     elim c.match-next.branch [
-      in-On w ↦ (inv.0 ∙ goes_on c.args.frame s c.loop-i.part a left (omega arith) c.in_ok-b.b r c.next.result c.next.ensures q (w.in-On.is ∙ ap On (sym w.part-is)) ∙ moved, same)
-    | in-Whole w ↦ (inv.0 ∙ goes_whole c.args.frame s c.loop-i.part a left (omega arith) c.in_ok-b.b r c.next.result c.next.ensures w.in-Whole.field-0 q (w.in-Whole.is ∙ ap (Whole w.in-Whole.field-0) (sym w.part-is)) ∙ moved, same)
+      | in-On w ↦ (inv.0 ∙ goes_on c.args.frame s c.loop-i.part a left (omega arith) c.in_ok-b.b r c.next.result c.next.ensures q (w.in-On.is ∙ ap On (sym w.part-is)) ∙ moved, same)
+      | in-Whole w ↦ (inv.0 ∙ goes_whole c.args.frame s c.loop-i.part a left (omega arith) c.in_ok-b.b r c.next.result c.next.ensures w.in-Whole.field-0 q (w.in-Whole.is ∙ ap (Whole w.in-Whole.field-0) (sym w.part-is)) ∙ moved, same)
     ]
 
 pub returns-clause-answer : goal.returns-clause-answer
