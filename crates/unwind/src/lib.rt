@@ -2,5 +2,6 @@
 #![tactic(auto)]
 
 mod carry;
+mod code;
 pub mod epilogue;
 mod undo;

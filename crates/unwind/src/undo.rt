@@ -12,7 +12,7 @@ use memory::item::{ItemFault, read_item};
 use memory::reading::Memory;
 
 // A sum that has to be an address.
-fn sum_at(a: u64, n: u64) -> Result<u64, ItemFault>
+pub(crate) fn sum_at(a: u64, n: u64) -> Result<u64, ItemFault>
     ensures { result_map_both (λ x. x) item_fault result ≡ sum_at a n }
 {
     a.checked_add(n).ok_or(ItemFault::PastEnd(Address(a)))
