@@ -1,9 +1,10 @@
 -- An epilogue carried out, action by action.
-use Rattle.std.proofs.Common.{◌≡◌, ℕ, List, [], ◌∷◌, Ok, Err, refl, sym, ap, ◌∙◌}
+use Rattle.std.proofs.Common.{◌≡◌, ℕ, List, [], ◌∷◌, Ok, Err, refl, sym, ap}
 use Rattle.layout.specs.declared.registers.Registers.{Registers}
 use Rattle.memory.specs.Byte.{Byte}
 use Rattle.memory.specs.Refusals.{Fault}
-use Rattle.unwind.specs.Undoing.{bind, returned}
+use Rattle.infos.specs.Codes.{bind}
+use Rattle.unwind.specs.Undoing.{returned}
 use Rattle.unwind.specs.Carrying.{acted, carried}
 use Rattle.unwind.specs.declared.epilogue.Action.{Action}
 

@@ -3,7 +3,8 @@ use Rattle.std.specs.Prelude.{ℕ, List, [], ◌∷◌, Result}
 use Rattle.layout.specs.declared.registers.Registers.{Registers}
 use Rattle.memory.specs.Byte.{Byte}
 use Rattle.memory.specs.Refusals.{Fault}
-use Rattle.unwind.specs.Undoing.{bind, moved, popped, returned}
+use Rattle.infos.specs.Codes.{bind}
+use Rattle.unwind.specs.Undoing.{moved, popped, returned}
 use Rattle.unwind.specs.declared.epilogue.Action.{Action}
 use Rattle.unwind.specs.declared.epilogue.Action.TheVariants.{Move, Pop}
 

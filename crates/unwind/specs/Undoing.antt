@@ -4,13 +4,9 @@ use Rattle.layout.specs.declared.registers.Registers.{Registers}
 use Rattle.memory.specs.Byte.{Byte}
 use Rattle.memory.specs.Items.{item}
 use Rattle.memory.specs.Refusals.{Fault}
+use Rattle.infos.specs.Codes.{bind}
 use Rattle.cpu.specs.Effects.{register_value}
 use Rattle.cpu.specs.Performance.{with_register}
-
--- one answer after another: the first fault is the answer
-abbrev pub bind : {X Y : Type 0} → Result X Fault → (X → Result Y Fault) → Result Y Fault
-bind (Ok x) f = f x
-bind (Err e) f = Err e
 
 -- a sum that has to be an address; its place is its first value
 abbrev pub sum_at : ℕ → ℕ → Result ℕ Fault

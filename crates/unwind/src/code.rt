@@ -1,13 +1,17 @@
-// Undoing one code.
-ghost use Rattle.std.specs.Prelude.{◌≡◌};
+// Undoing codes.
+ghost use Rattle.std.specs.Prelude.{◌≡◌, ◌^◌, ◌<◌, true, is_ok};
+ghost use Rattle.infos.specs.Codings.{codes_left};
+ghost use Rattle.infos.specs.Listings.{listed};
+ghost use Rattle.infos.specs.Sequences.{gathered};
 ghost use Rattle.std.specs.Result.{result_map_both};
 ghost use Rattle.memory.specs.Refusals.{item_fault};
-ghost use Rattle.unwind.specs.Codes.{difference_at, with_xmm, code_undone, saved};
+ghost use Rattle.unwind.specs.Codes.{difference_at, with_xmm, code_undone, code_fault, in_slot, codes_undone, saved};
 
 use crate::undo::{pop, sum_at};
 use cpu::intent::value_of;
 use cpu::processor::put;
-use infos::code::Operation;
+use infos::code::{Code, Operation};
+use infos::codes::Codes;
 use layout::address::Address;
 use layout::registers::Registers;
 use layout::word::Word;
@@ -53,6 +57,13 @@ pub(crate) struct Saves {
     pub offset: u8,
 }
 
+// What ends the undoing of a code, and that code's first slot.
+#[derive(Clone, Copy, PartialEq, Eq, Debug)]
+pub struct CodeFault {
+    pub fault: ItemFault,
+    pub slot: u16,
+}
+
 // Undoes an operation.
 pub(crate) fn undo<M: Memory>(
     m: &mut M,
@@ -60,7 +71,7 @@ pub(crate) fn undo<M: Memory>(
     operation: Operation,
     mut registers: Registers,
 ) -> Result<Registers, ItemFault>
-    ensures answer { result_map_both (λ x. x) item_fault result ≡ code_undone (M.shows m.old) saves.base saves.frame saves.offset operation registers }
+    ensures answer { result_map_both (λ x. x) item_fault result ≡ code_undone (M.shows m.old) saves operation registers }
     ensures same { M.shows m.new ≡ M.shows m.old }
 {
     match operation {
@@ -81,6 +92,42 @@ pub(crate) fn undo<M: Memory>(
         Operation::SaveXmm { register, offset } => {
             let word: u128 = saved(m, saves.base, offset)?;
             put_xmm(&mut registers, register, word);
+        }
+    }
+    Ok(registers)
+}
+
+// Undoes a code.
+fn undo_code<M: Memory>(
+    m: &mut M,
+    saves: Saves,
+    code: Code,
+    registers: Registers,
+) -> Result<Registers, CodeFault>
+    requires { code.slot < 2 ^ 16 }
+    ensures answer { result_map_both (λ x. x) code_fault result ≡ in_slot code.slot (code_undone (M.shows m.old) saves code.operation registers) }
+    ensures same { M.shows m.new ≡ M.shows m.old }
+{
+    let slot = code.slot as u16;
+    undo(m, saves, code.operation, registers).map_err(|fault| CodeFault { fault, slot })
+}
+
+// Undoes codes, none of which is refused, as far as their prologue offset is at most `limit`.
+pub(crate) fn undo_codes<M: Memory>(
+    m: &mut M,
+    saves: Saves,
+    codes: Codes<'_>,
+    limit: u8,
+    mut registers: Registers,
+) -> Result<Registers, CodeFault>
+    requires { is_ok (gathered (codes_left codes)) ≡ true }
+    ensures answer { result_map_both (λ x. x) code_fault result ≡ codes_undone (M.shows m.old) saves limit (listed (gathered (codes_left codes.entry))) registers }
+    ensures same { M.shows m.new ≡ M.shows m.old }
+{
+    for code in codes {
+        let code = code.unwrap();
+        if code.offset <= limit {
+            registers = undo_code(m, saves, code, registers)?;
         }
     }
     Ok(registers)

@@ -9,7 +9,7 @@ use Rattle.unwind.specs.Epilogues.{actions, found, listed}
 use Rattle.unwind.specs.declared.epilogue.Part.TheVariants.{First}
 use Rattle.unwind.specs.declared.epilogue.Next.TheVariants.{On, Whole}
 use Rattle.unwind.proofs.Carrying.{went_on, faulted, closed}
-use Rattle.unwind.proofs.Scanning.{stops, finds, misfits, goes_on, goes_whole, lists_on, lists_whole, lists_none, nothing_left, not_refused, not_missing}
+use Rattle.unwind.proofs.Scanning.{stops, misfits, goes_on, goes_whole, lists_on, lists_whole, lists_none, nothing_left, not_refused, not_missing}
 use Rattle.unwind.specs.Undoing.{returned}
 use Rattle.unwind.proofs.carry.carry_out.Goals as goal
 use Rattle.unwind.proofs.carry.carry_out.Goals.{in-On, in-Whole+in_ok-registers-in-Whole, else-loop-i-test, then-loop-i-test+in_ok-b+in-Found}
