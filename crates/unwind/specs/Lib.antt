@@ -1,3 +1,4 @@
+pub mod Bases
 pub mod Carrying
 pub mod Codes
 pub mod Epilogues

@@ -117,7 +117,7 @@ pub(crate) fn undo_codes<M: Memory>(
     m: &mut M,
     saves: Saves,
     codes: Codes<'_>,
-    limit: u8,
+    limit: u32,
     mut registers: Registers,
 ) -> Result<Registers, CodeFault>
     requires { is_ok (gathered (codes_left codes)) ≡ true }
@@ -126,7 +126,7 @@ pub(crate) fn undo_codes<M: Memory>(
 {
     for code in codes {
         let code = code.unwrap();
-        if code.offset <= limit {
+        if u32::from(code.offset) <= limit {
             registers = undo_code(m, saves, code, registers)?;
         }
     }

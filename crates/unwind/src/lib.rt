@@ -1,6 +1,7 @@
 // Undoing one frame of a stopped program.
 #![tactic(auto)]
 
+mod base;
 mod carry;
 mod code;
 pub mod epilogue;

@@ -1,4 +1,4 @@
-use Rattle.std.proofs.Common.{◌<◌, Err, refl, sym, ap, ◌∙◌, arith}
+use Rattle.std.proofs.Common.{◌≡◌, ◌<◌, ◌≤◌, Ok, Err, refl, sym, ap, ◌∙◌, arith}
 use Rattle.std.proofs.lemmas.Result.{err_from_is_err_and}
 use Rattle.std.specs.Result.{result_map_both}
 use Rattle.infos.specs.Codings.{codes_left}
@@ -29,23 +29,25 @@ returns-in_err-registers-clause-answer g c =
     let inv = c.loop-code.invariant in
     let x = c.unwrap-code.result in
     let f = next_is c.loop-code.code-iterator _ _ _ inv.left c.in-Some.ensures.steps _ c.unwrap-code.ensures in
+    let soon : x.offset ≤ c.args.limit = omega (arith, c.if-from-limit.true, c.from.ensures) in
     let done = c.in_err-registers.ensures.answer ∙ ap (λ h. in_slot x.slot (code_undone h v x.operation c.loop-code.registers)) inv.same in
     let p = err_from_is_err_and c.from_residual.result c.from_residual.ensures.1 in
     ap (λ z. result_map_both (λ r. r) code_fault z) (p.1 ∙ ap Err p.2)
-    ∙ sym (inv.goes ∙ ap (λ cs. codes_undone s v c.args.limit cs c.loop-code.registers) f.1 ∙ undone_err s v c.args.limit x f.0 c.loop-code.registers _ c.if-code-limit.true done)
+    ∙ sym (inv.goes ∙ ap (λ cs. codes_undone s v c.args.limit cs c.loop-code.registers) f.1 ∙ undone_err s v c.args.limit x f.0 c.loop-code.registers _ soon done)
 
 pub returns-in_err-registers-clause-same : goal.returns-in_err-registers-clause-same
 returns-in_err-registers-clause-same g c = c.in_err-registers.ensures.same ∙ c.loop-code.invariant.same
 
-pub loop-code-preserved-then-code-limit : goal.loop-code-preserved-then-code-limit
-loop-code-preserved-then-code-limit g c =
+pub loop-code-preserved-then-from-limit : goal.loop-code-preserved-then-from-limit
+loop-code-preserved-then-from-limit g c =
     let s = g.M.Memory.shows c.args.m.now in
     let v = c.args.saves in
     let inv = c.loop-code.invariant in
     let x = c.unwrap-code.result in
     let f = next_is c.loop-code.code-iterator _ _ _ inv.left c.in-Some.ensures.steps _ c.unwrap-code.ensures in
+    let soon : x.offset ≤ c.args.limit = omega (arith, c.if-from-limit.true, c.from.ensures) in
     let done = c.in_ok-registers.ensures.answer ∙ ap (λ h. in_slot x.slot (code_undone h v x.operation c.loop-code.registers)) inv.same in
-    let goes = inv.goes ∙ ap (λ cs. codes_undone s v c.args.limit cs c.loop-code.registers) f.1 ∙ undone_ok s v c.args.limit x f.0 c.loop-code.registers _ c.if-code-limit.true done in
+    let goes = inv.goes ∙ ap (λ cs. codes_undone s v c.args.limit cs c.loop-code.registers) f.1 ∙ undone_ok s v c.args.limit x f.0 c.loop-code.registers _ soon done in
     record { can = tt; ends = tt; rest = f.0; left = f.2; goes = goes; same = c.in_ok-registers.ensures.same ∙ inv.same }
 
 pub loop-code-preserved : goal.loop-code-preserved
@@ -55,7 +57,7 @@ loop-code-preserved g c =
     let inv = c.loop-code.invariant in
     let x = c.unwrap-code.result in
     let f = next_is c.loop-code.code-iterator _ _ _ inv.left c.in-Some.ensures.steps _ c.unwrap-code.ensures in
-    let late : c.args.limit < x.offset = omega (arith, c.if-code-limit.false) in
+    let late : c.args.limit < x.offset = omega (arith, c.if-from-limit.false, c.from.ensures) in
     let goes = inv.goes ∙ ap (λ cs. codes_undone s v c.args.limit cs c.loop-code.registers) f.1 ∙ undone_skip s v c.args.limit x f.0 c.loop-code.registers late in
     record { can = tt; ends = tt; rest = f.0; left = f.2; goes = goes; same = inv.same }
 
