@@ -1,0 +1,3 @@
+pub mod Carrying
+pub mod Codes
+pub mod Scanning

@@ -1,0 +1,5 @@
+pub mod Bases
+pub mod Carrying
+pub mod Codes
+pub mod Epilogues
+pub mod Undoing

@@ -1,0 +1,5 @@
+// Tests of undoing frames.
+#![tactic(auto)]
+
+#[cfg(test)]
+mod epilogues;
