@@ -1,5 +1,6 @@
 pub mod Bases
 pub mod Carrying
+pub mod Chains
 pub mod Codes
 pub mod Epilogues
 pub mod Undoing

@@ -3,6 +3,7 @@
 
 mod base;
 mod carry;
+pub mod chain;
 mod code;
 pub mod epilogue;
 mod undo;
