@@ -1,3 +1,4 @@
 pub mod Carrying
+pub mod Chains
 pub mod Codes
 pub mod Scanning

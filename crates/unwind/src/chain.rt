@@ -7,7 +7,7 @@ ghost use Rattle.unwind.specs.Codes.{codes_undone};
 ghost use Rattle.unwind.specs.Undoing.{returned};
 ghost use Rattle.std.specs.Result.{result_map_both};
 ghost use Rattle.infos.specs.Infos.{viewed, tail_view};
-ghost use Rattle.unwind.specs.Chains.{undo_fault, at_code, at_info, info_of, after_links, followed, chain_undone};
+ghost use Rattle.unwind.specs.Chains.{undo_fault, at_code, at_info, info_of, after_links, link, followed, chain_undone};
 
 use crate::code::{CodeFault, Saves, undo_codes};
 use crate::undo::pop_rip;
@@ -89,4 +89,60 @@ fn codes_after<M: Memory>(
         slot: Some(e.slot),
         links,
     })
+}
+
+// Undoes the info that a link names whole, and answers its tail too.
+fn follow<'a, M: Memory>(
+    m: &mut M,
+    area: InfoArea<'a>,
+    saves: Saves,
+    next: Entry,
+    registers: Registers,
+    links: u8,
+) -> Result<(Tail<'a>, Registers), UndoFault>
+    ensures answer { result_map_both (λ p. (tail_view p.0, p.1)) undo_fault result ≡ followed (M.shows m.old) area.entry saves links next registers }
+    ensures same { M.shows m.new ≡ M.shows m.old }
+{
+    let info = info_at(area, next.info, links)?;
+    let undone = codes_after(m, saves, info.codes(), registers, links)?;
+    Ok((info.tail, undone))
+}
+
+// The entry that a tail is chained to.
+fn link(tail: Tail<'_>) -> Option<Entry>
+    ensures { result ≡ link (tail_view tail.entry) }
+{
+    match tail {
+        Tail::Chained(next) => Some(next),
+        Tail::None | Tail::Handler { .. } => None,
+    }
+}
+
+// Undoes the infos that a tail is chained to, with the same base, and pops RIP.
+pub(crate) fn undo_chain<'a, M: Memory>(
+    m: &mut M,
+    area: InfoArea<'a>,
+    saves: Saves,
+    mut tail: Tail<'a>,
+    mut registers: Registers,
+) -> Result<Registers, UndoFault>
+    ensures answer { result_map_both (λ x. x) undo_fault result ≡ chain_undone (M.shows m.old) area.entry saves 32 0 (tail_view tail.entry) registers }
+    ensures same { M.shows m.new ≡ M.shows m.old }
+{
+    for links in 0..MAX_LINKS {
+        let Some(next) = link(tail) else {
+            return return_after(m, registers, links);
+        };
+        let followed = follow(m, area, saves, next, registers, links + 1)?;
+        tail = followed.0;
+        registers = followed.1;
+    }
+    match link(tail) {
+        Some(next) => Err(UndoFault {
+            cause: Cause::TooManyLinks(next.info),
+            slot: None,
+            links: MAX_LINKS,
+        }),
+        None => return_after(m, registers, MAX_LINKS),
+    }
 }
