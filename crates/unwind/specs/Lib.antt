@@ -3,4 +3,5 @@ pub mod Carrying
 pub mod Chains
 pub mod Codes
 pub mod Epilogues
+pub mod Frames
 pub mod Undoing

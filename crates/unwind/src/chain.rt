@@ -45,7 +45,7 @@ pub struct UndoFault {
 const MAX_LINKS: u8 = 32;
 
 // Reads the info at an RVA whole, after so many links.
-fn info_at<'a>(area: InfoArea<'a>, at: Rva, links: u8) -> Result<Info<'a>, UndoFault>
+pub(crate) fn info_at<'a>(area: InfoArea<'a>, at: Rva, links: u8) -> Result<Info<'a>, UndoFault>
     ensures value { result_map_both viewed undo_fault result ≡ at_info links at.0 (info_of area.entry at.0) }
     ensures few { IfOk result (λ i. length i.slots.now ≤ 510) }
 {
@@ -72,19 +72,20 @@ fn return_after<M: Memory>(
     })
 }
 
-// Undoes codes after so many links.
-fn codes_after<M: Memory>(
+// Undoes codes up to an offset after so many links.
+pub(crate) fn codes_after<M: Memory>(
     m: &mut M,
     saves: Saves,
     codes: Codes<'_>,
+    limit: u32,
     registers: Registers,
     links: u8,
 ) -> Result<Registers, UndoFault>
     requires { is_ok (gathered (codes_left codes)) ≡ true }
-    ensures answer { result_map_both (λ x. x) undo_fault result ≡ at_code links (codes_undone (M.shows m.old) saves (2 ^ 32 - 1) (listed (gathered (codes_left codes.entry))) registers) }
+    ensures answer { result_map_both (λ x. x) undo_fault result ≡ at_code links (codes_undone (M.shows m.old) saves limit (listed (gathered (codes_left codes.entry))) registers) }
     ensures same { M.shows m.new ≡ M.shows m.old }
 {
-    undo_codes(m, saves, codes, u32::MAX, registers).map_err(|e| UndoFault {
+    undo_codes(m, saves, codes, limit, registers).map_err(|e| UndoFault {
         cause: Cause::Unread(e.fault),
         slot: Some(e.slot),
         links,
@@ -104,7 +105,7 @@ fn follow<'a, M: Memory>(
     ensures same { M.shows m.new ≡ M.shows m.old }
 {
     let info = info_at(area, next.info, links)?;
-    let undone = codes_after(m, saves, info.codes(), registers, links)?;
+    let undone = codes_after(m, saves, info.codes(), u32::MAX, registers, links)?;
     Ok((info.tail, undone))
 }
 

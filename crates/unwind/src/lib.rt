@@ -6,4 +6,5 @@ mod carry;
 pub mod chain;
 mod code;
 pub mod epilogue;
+mod frame;
 mod undo;

@@ -41,10 +41,11 @@ loop-links-preserved g c =
     let u = tail_view c.in_ok-followed.followed.0 in
     let after = c.in_ok-followed.followed.1 in
     let done = c.in_ok-followed.ensures.answer ∙ ap (λ h. followed h c.args.area c.args.saves (l.links + 1) next l.registers) l.invariant.1 in
-    let less : 32 - l.links - 1 ≡ 32 - (l.links + 1) = omega arith in
-    (l.invariant.0 ∙ chain_next s c.args.area c.args.saves l.links (tail_view l.tail) l.registers (32 - l.links) (omega arith) next (sym c.link.ensures ∙ c.in-Some.is) u after done
-    ∙ ap (λ n. chain_undone s c.args.area c.args.saves n (l.links + 1) u after) less,
-    c.in_ok-followed.ensures.same ∙ l.invariant.1)
+    let less : 32 - l.links - 1 ≡ 32 - (l.links + 1) = omega arith in (
+      l.invariant.0 ∙ chain_next s c.args.area c.args.saves l.links (tail_view l.tail) l.registers (32 - l.links) (omega arith) next (sym c.link.ensures ∙ c.in-Some.is) u after done
+          ∙ ap (λ n. chain_undone s c.args.area c.args.saves n (l.links + 1) u after) less,
+      c.in_ok-followed.ensures.same ∙ l.invariant.1,
+    )
 
 pub returns-in-Some-link-clause-answer : goal.returns-in-Some-link-clause-answer
 returns-in-Some-link-clause-answer g c =
