@@ -1,5 +1,5 @@
 -- An info's codes undone, then those of the infos it is chained to, and a return pop.
-use Rattle.std.specs.Prelude.{ℕ, zero, suc, ◌+◌, ◌-◌, ◌^◌, List, Ok, Err, Result, Some, None, Option}
+use Rattle.std.specs.Prelude.{◌≡◌, ℕ, zero, suc, ◌+◌, ◌-◌, ◌^◌, ◌≤◌, true, List, length, is_ok, Ok, Err, Result, Some, None, Option}
 use Rattle.std.specs.Result.{result_map_both}
 use Rattle.layout.specs.declared.registers.Registers.{Registers}
 use Rattle.memory.specs.Byte.{Byte}
@@ -8,6 +8,7 @@ use Rattle.tables.specs.declared.area.InfoArea.{InfoArea}
 use Rattle.tables.specs.declared.entry.Entry.{Entry}
 use Rattle.infos.specs.Codes.{bind}
 use Rattle.infos.specs.declared.code.Code.{Code}
+use Rattle.infos.specs.declared.info.Info.{Info}
 use Rattle.infos.specs.Infos.{InfoOf, TailOf, nothing, handler, chained, info_at}
 use Rattle.infos.specs.Listings.{listed}
 use Rattle.infos.specs.Refusals.{InfoFault, reason_number}
@@ -49,6 +50,10 @@ info_of area rva = info_at area.bytes.now area.start.0 rva
 abbrev pub codes_in : InfoOf → List Code
 codes_in i = listed (codes_of i.prologue i.frame_register i.slots)
 
+-- an info whose codes are all good, as reading gives it
+abbrev pub ReadWhole : Info → Type 0
+ReadWhole i = (length i.slots.now ≤ 510) × (is_ok (codes_of i.prologue i.frame_register i.slots.now) ≡ true)
+
 -- the entry that an info is chained to
 abbrev pub link : TailOf → Option Entry
 link nothing = None
@@ -60,16 +65,20 @@ abbrev pub at_link : (ℕ → Byte) → ℕ → Option Entry → Registers → (
 at_link s links None regs f = after_links links (returned s regs)
 at_link s links (Some e) regs f = f e
 
--- the info that a link names, undone whole: its tail, and the registers after it
-abbrev pub followed : (ℕ → Byte) → InfoArea → Saves → ℕ → Entry → Registers → Result (TailOf × Registers) FaultOf
-followed s area v links e regs =
+-- the base, with the frame register and its offset of the info that codes stand in
+abbrev pub saves_of : InfoOf → ℕ → Saves
+saves_of i b = record { base = b; frame = i.frame_register; offset = i.frame_offset }
+
+-- the info that a link names, undone whole over the base of the frame: its tail, and the registers after it
+abbrev pub followed : (ℕ → Byte) → InfoArea → ℕ → ℕ → Entry → Registers → Result (TailOf × Registers) FaultOf
+followed s area b links e regs =
     bind (at_info links e.info.0 (info_of area e.info.0))
-    (λ i. bind (at_code links (codes_undone s v (2 ^ 32 - 1) (codes_in i) regs))
+    (λ i. bind (at_code links (codes_undone s (saves_of i b) (2 ^ 32 - 1) (codes_in i) regs))
     (λ u. Ok (i.tail, u)))
 
 -- the chained infos undone, at most `left` more
-unfoldable pub chain_undone : (ℕ → Byte) → InfoArea → Saves → ℕ → ℕ → TailOf → Registers → Result Registers FaultOf
-chain_undone s area v zero links t regs = at_link s links (link t) regs (λ e. Err (record { fault = record { number = 46; place = e.info.0 }; slot = None; links = links }))
-chain_undone s area v (suc left) links t regs =
+unfoldable pub chain_undone : (ℕ → Byte) → InfoArea → ℕ → ℕ → ℕ → TailOf → Registers → Result Registers FaultOf
+chain_undone s area b zero links t regs = at_link s links (link t) regs (λ e. Err (record { fault = record { number = 46; place = e.info.0 }; slot = None; links = links }))
+chain_undone s area b (suc left) links t regs =
     at_link s links (link t) regs
-    (λ e. bind (followed s area v (links + 1) e regs) (λ p. chain_undone s area v left (links + 1) p.0 p.1))
+    (λ e. bind (followed s area b (links + 1) e regs) (λ p. chain_undone s area b left (links + 1) p.0 p.1))

@@ -2,6 +2,7 @@
 use Rattle.std.specs.Prelude.{ℕ, zero, suc, ◌+◌, ◌-◌, ◌*◌, ◌/◌, ◌%◌, ◌^◌, Bool, true, false, cond, not, ◌&&◌, List, [], ◌∷◌, Ok, Err, Result, Some, None, Option, is_some, ◌==◌, nat_le, nat_lt}
 use Rattle.std.specs.Option.{option_map}
 use Rattle.std.specs.Result.{result_map_both}
+use Rattle.x64.specs.Decodings.{extended}
 use Rattle.memory.specs.Byte.{Byte, shown, lacking}
 use Rattle.unwind.specs.declared.epilogue.Action.{Action}
 use Rattle.unwind.specs.declared.epilogue.Action.TheVariants.{Move, Pop}
@@ -9,10 +10,6 @@ use Rattle.unwind.specs.declared.epilogue.Part.{Part}
 use Rattle.unwind.specs.declared.epilogue.Part.TheVariants.{First, Low, High, Add, Lea, Short, Long, Pops, Upper, Repeat}
 use Rattle.unwind.specs.declared.epilogue.Next.{Next}
 use Rattle.unwind.specs.declared.epilogue.Next.TheVariants.{On, Whole, Found, Misfit}
-
--- a signed byte as 32 signed bits
-abbrev pub extended : ℕ → ℕ
-extended b = cond (nat_lt b 128) b (b + (2 ^ 32 - 256))
 
 -- 58 to 5F pop the registers from 0 on, but 5C; 41 and C3 and F3 begin a pop of an upper register and a close
 abbrev pub pop_or_close : ℕ → Next

@@ -1,5 +1,5 @@
 // The infos that an info is chained to, undone.
-ghost use Rattle.std.specs.Prelude.{◌≡◌, ◌-◌, ◌^◌, ◌≤◌, true, length, is_ok, IfOk};
+ghost use Rattle.std.specs.Prelude.{◌≡◌, ◌≤◌, true, length, is_ok, IfOk};
 ghost use Rattle.infos.specs.Codings.{codes_left};
 ghost use Rattle.infos.specs.Listings.{listed};
 ghost use Rattle.infos.specs.Sequences.{gathered};
@@ -7,14 +7,14 @@ ghost use Rattle.unwind.specs.Codes.{codes_undone};
 ghost use Rattle.unwind.specs.Undoing.{returned};
 ghost use Rattle.std.specs.Result.{result_map_both};
 ghost use Rattle.infos.specs.Infos.{viewed, tail_view};
-ghost use Rattle.unwind.specs.Chains.{undo_fault, at_code, at_info, info_of, after_links, link, followed, chain_undone};
+ghost use Rattle.unwind.specs.Chains.{undo_fault, at_code, at_info, info_of, after_links, link, saves_of, followed, chain_undone};
 
-use crate::code::{CodeFault, Saves, undo_codes};
+use crate::code::{Saves, undo_codes};
 use crate::undo::pop_rip;
 use infos::codes::Codes;
 use infos::info::{Info, Tail};
 use infos::reading::read_info;
-use infos::refusal::{InfoReason, InfoRefusal};
+use infos::refusal::InfoReason;
 use layout::address::Rva;
 use layout::registers::Registers;
 use memory::item::ItemFault;
@@ -92,20 +92,38 @@ pub(crate) fn codes_after<M: Memory>(
     })
 }
 
-// Undoes the info that a link names whole, and answers its tail too.
+// What codes of an info are undone by, over the base of the frame.
+pub(crate) fn saves_of(info: &Info<'_>, base: u64) -> Saves
+    ensures { result ≡ saves_of (viewed info.now) base }
+{
+    Saves {
+        base,
+        frame: info.frame_register,
+        offset: info.frame_offset,
+    }
+}
+
+// Undoes the info that a link names whole, over the base of the frame, and answers its tail too.
 fn follow<'a, M: Memory>(
     m: &mut M,
     area: InfoArea<'a>,
-    saves: Saves,
+    base: u64,
     next: Entry,
     registers: Registers,
     links: u8,
 ) -> Result<(Tail<'a>, Registers), UndoFault>
-    ensures answer { result_map_both (λ p. (tail_view p.0, p.1)) undo_fault result ≡ followed (M.shows m.old) area.entry saves links next registers }
+    ensures answer { result_map_both (λ p. (tail_view p.0, p.1)) undo_fault result ≡ followed (M.shows m.old) area.entry base links next registers }
     ensures same { M.shows m.new ≡ M.shows m.old }
 {
     let info = info_at(area, next.info, links)?;
-    let undone = codes_after(m, saves, info.codes(), u32::MAX, registers, links)?;
+    let undone = codes_after(
+        m,
+        saves_of(&info, base),
+        info.codes(),
+        u32::MAX,
+        registers,
+        links,
+    )?;
     Ok((info.tail, undone))
 }
 
@@ -123,18 +141,18 @@ fn link(tail: Tail<'_>) -> Option<Entry>
 pub(crate) fn undo_chain<'a, M: Memory>(
     m: &mut M,
     area: InfoArea<'a>,
-    saves: Saves,
+    base: u64,
     mut tail: Tail<'a>,
     mut registers: Registers,
 ) -> Result<Registers, UndoFault>
-    ensures answer { result_map_both (λ x. x) undo_fault result ≡ chain_undone (M.shows m.old) area.entry saves 32 0 (tail_view tail.entry) registers }
+    ensures answer { result_map_both (λ x. x) undo_fault result ≡ chain_undone (M.shows m.old) area.entry base 32 0 (tail_view tail.entry) registers }
     ensures same { M.shows m.new ≡ M.shows m.old }
 {
     for links in 0..MAX_LINKS {
         let Some(next) = link(tail) else {
             return return_after(m, registers, links);
         };
-        let followed = follow(m, area, saves, next, registers, links + 1)?;
+        let followed = follow(m, area, base, next, registers, links + 1)?;
         tail = followed.0;
         registers = followed.1;
     }

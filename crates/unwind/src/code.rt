@@ -7,7 +7,7 @@ ghost use Rattle.std.specs.Result.{result_map_both};
 ghost use Rattle.memory.specs.Refusals.{item_fault};
 ghost use Rattle.unwind.specs.Codes.{difference_at, with_xmm, code_undone, code_fault, in_slot, codes_undone, saved};
 
-use crate::undo::{pop, sum_at};
+use crate::undo::{RSP, pop, sum_at};
 use cpu::intent::value_of;
 use cpu::processor::put;
 use infos::code::{Code, Operation};
@@ -77,13 +77,13 @@ pub(crate) fn undo<M: Memory>(
     match operation {
         Operation::Push(register) => return pop(m, registers, register),
         Operation::Allocate(size) => {
-            let rsp = sum_at(value_of(&registers, 4), u64::from(size))?;
-            put(&mut registers, 4, rsp);
+            let rsp = sum_at(value_of(&registers, RSP), u64::from(size))?;
+            put(&mut registers, RSP, rsp);
         }
         Operation::SetFrame => {
             let frame = value_of(&registers, saves.frame);
             let rsp = difference_at(frame, u64::from(saves.offset))?;
-            put(&mut registers, 4, rsp);
+            put(&mut registers, RSP, rsp);
         }
         Operation::Save { register, offset } => {
             let word: u64 = saved(m, saves.base, offset)?;

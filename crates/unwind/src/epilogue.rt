@@ -1,7 +1,8 @@
 // Whether the bytes from an address on are an epilogue, told byte by byte.
 ghost use Rattle.std.specs.Prelude.{◌≡◌, ◌+◌, ◌^◌, ◌≤◌};
 ghost use Rattle.std.specs.Result.{result_map_both};
-ghost use Rattle.unwind.specs.Epilogues.{extended, pop_or_close, lea_byte, long_byte, next, actions, found};
+ghost use Rattle.x64.specs.Decodings.{extended};
+ghost use Rattle.unwind.specs.Epilogues.{pop_or_close, lea_byte, long_byte, next, actions, found};
 ghost use Rattle.unwind.specs.declared.epilogue.Part.TheVariants.{First};
 
 use layout::address::Address;

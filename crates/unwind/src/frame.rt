@@ -1,15 +1,13 @@
 // One frame undone.
-ghost use Rattle.std.specs.Prelude.{◌≡◌, ◌≤◌, true, length, is_ok};
+ghost use Rattle.std.specs.Prelude.{◌≡◌};
 ghost use Rattle.std.specs.Result.{result_map_both};
 ghost use Rattle.infos.specs.Infos.{viewed};
-ghost use Rattle.infos.specs.Sequences.{codes_of};
 ghost use Rattle.unwind.specs.Bases.{base};
-ghost use Rattle.unwind.specs.Chains.{undo_fault, after_links, codes_in};
+ghost use Rattle.unwind.specs.Chains.{undo_fault, after_links, codes_in, ReadWhole};
 ghost use Rattle.unwind.specs.Frames.{undone_by};
 
 use crate::base::base_of;
-use crate::chain::{Cause, UndoFault, codes_after, undo_chain};
-use crate::code::Saves;
+use crate::chain::{Cause, UndoFault, codes_after, saves_of, undo_chain};
 use infos::info::Info;
 use layout::registers::Registers;
 use memory::reading::Memory;
@@ -17,7 +15,7 @@ use tables::area::InfoArea;
 
 // The base, or its fault.
 fn base_after(info: &Info<'_>, offset: u32, registers: &Registers) -> Result<u64, UndoFault>
-    requires { (length info.now.slots.now ≤ 510) × (is_ok (codes_of info.now.prologue info.now.frame_register info.now.slots.now) ≡ true) }
+    requires { ReadWhole info.now }
     ensures { result_map_both (λ x. x) undo_fault result ≡ after_links 0 (base (viewed info.now) (codes_in (viewed info.now)) offset registers.now) }
 {
     base_of(info, offset, registers).map_err(|e| UndoFault {
@@ -35,16 +33,11 @@ pub(crate) fn undo_by<M: Memory>(
     offset: u32,
     registers: Registers,
 ) -> Result<Registers, UndoFault>
-    requires { (length info.now.slots.now ≤ 510) × (is_ok (codes_of info.now.prologue info.now.frame_register info.now.slots.now) ≡ true) }
+    requires { ReadWhole info.now }
     ensures answer { result_map_both (λ x. x) undo_fault result ≡ undone_by (M.shows m.old) area.entry (viewed info.now) offset registers }
     ensures same { M.shows m.new ≡ M.shows m.old }
 {
     let base = base_after(info, offset, &registers)?;
-    let saves = Saves {
-        base,
-        frame: info.frame_register,
-        offset: info.frame_offset,
-    };
-    let undone = codes_after(m, saves, info.codes(), offset, registers, 0)?;
-    undo_chain(m, area, saves, info.tail, undone)
+    let undone = codes_after(m, saves_of(info, base), info.codes(), offset, registers, 0)?;
+    undo_chain(m, area, base, info.tail, undone)
 }

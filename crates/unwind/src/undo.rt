@@ -11,6 +11,9 @@ use layout::registers::Registers;
 use memory::item::{ItemFault, read_item};
 use memory::reading::Memory;
 
+// The number of RSP, as instructions and codes have it.
+pub(crate) const RSP: u8 = 4;
+
 // A sum that has to be an address.
 pub(crate) fn sum_at(a: u64, n: u64) -> Result<u64, ItemFault>
     ensures { result_map_both (λ x. x) item_fault result ≡ sum_at a n }
@@ -41,7 +44,7 @@ pub(crate) fn move_rsp(
     ensures { result_map_both (λ x. x) item_fault result ≡ moved register d registers }
 {
     let rsp = displaced_at(value_of(&registers, register), d)?;
-    put(&mut registers, 4, rsp);
+    put(&mut registers, RSP, rsp);
     Ok(registers)
 }
 
@@ -54,11 +57,11 @@ pub(crate) fn pop<M: Memory>(
     ensures answer { result_map_both (λ x. x) item_fault result ≡ popped (M.shows m.old) register registers }
     ensures same { M.shows m.new ≡ M.shows m.old }
 {
-    let rsp = value_of(&registers, 4);
+    let rsp = value_of(&registers, RSP);
     let word: u64 = read_item(m, Address(rsp))?;
     let above = sum_at(rsp, 8)?;
     put(&mut registers, register, word);
-    put(&mut registers, 4, above);
+    put(&mut registers, RSP, above);
     Ok(registers)
 }
 
@@ -70,10 +73,10 @@ pub(crate) fn pop_rip<M: Memory>(
     ensures answer { result_map_both (λ x. x) item_fault result ≡ returned (M.shows m.old) registers }
     ensures same { M.shows m.new ≡ M.shows m.old }
 {
-    let rsp = value_of(&registers, 4);
+    let rsp = value_of(&registers, RSP);
     let word: u64 = read_item(m, Address(rsp))?;
     let above = sum_at(rsp, 8)?;
     registers.rip = Address(word);
-    put(&mut registers, 4, above);
+    put(&mut registers, RSP, above);
     Ok(registers)
 }

@@ -1,4 +1,4 @@
-use Rattle.std.proofs.Common.{◌≡◌, ◌||◌, refl, sym, ap, ◌∙◌}
+use Rattle.std.proofs.Common.{◌||◌, refl, sym, ap, ◌∙◌}
 use Rattle.infos.specs.Codings.{codes_left}
 use Rattle.infos.specs.Listings.{listed}
 use Rattle.infos.specs.Sequences.{gathered}

@@ -7,5 +7,5 @@ use Rattle.unwind.proofs.chain.undo_chain.Given as goal
 abbrev pub invariant-loop-links : goal.invariant-loop-links
 invariant-loop-links g l =
     let s = g.M.Memory.shows in
-    (chain_undone (s l.initial.m) l.area l.saves 32 0 (tail_view l.initial.tail) l.initial.registers ≡ chain_undone (s l.initial.m) l.area l.saves (32 - l.links) l.links (tail_view l.tail) l.registers)
+    (chain_undone (s l.initial.m) l.area l.base 32 0 (tail_view l.initial.tail) l.initial.registers ≡ chain_undone (s l.initial.m) l.area l.base (32 - l.links) l.links (tail_view l.tail) l.registers)
     × (s l.m ≡ s l.initial.m)
