@@ -46,14 +46,16 @@ fn signed(text: &str) -> Result<i64, LineFault> {
         Some(rest) => (-1i64, rest),
         None => (1, text),
     };
+    // The library would take a `+` in front of digits.
+    if digits.contains('+') {
+        return Err(LineFault::Number);
+    }
     let size = match digits.strip_prefix("0x") {
         Some(hex) => u32::from_str_radix(hex, 16),
         None => u32::from_str_radix(digits, 10),
     };
-    match size {
-        Ok(n) => Ok(sign * i64::from(n)),
-        Err(_) => Err(LineFault::Number),
-    }
+    let n = size.map_err(|_| LineFault::Number)?;
+    Ok(sign * i64::from(n))
 }
 
 fn step(kind: u8, register: u8, number: &str) -> Result<Line<'static>, LineFault> {

@@ -104,6 +104,14 @@ fn a_line_that_says_nothing(rt: HostRuntime) -> Result<(), Fail> {
         "line 2: a number is expected, that fits into 32 bits"
     );
     assert_eq!(rt;
+        complaint(&rt, "function a\n allocate +8")?.as_str(),
+        "line 2: a number is expected, that fits into 32 bits"
+    );
+    assert_eq!(rt;
+        complaint(&rt, "function a\n set R11 -0x+8")?.as_str(),
+        "line 2: a number is expected, that fits into 32 bits"
+    );
+    assert_eq!(rt;
         complaint(&rt, "function a\n set R11 2147483648")?.as_str(),
         "line 2: a number is expected, that fits into 32 bits"
     );
