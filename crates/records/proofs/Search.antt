@@ -1,12 +1,9 @@
 -- A search among ascending records, and a test for their order, place by place.
-use Rattle.std.proofs.Common.{◌≡◌, ℕ, zero, suc, ◌+◌, ◌<◌, ◌≤◌, Bool, true, false, ◌&&◌, ltb, leb, ◌⊎◌, List, [], ◌∷◌, length, get_or, IfSome, Ok, Err, Result, Some, None, sym, refl, ap, ◌∙◌, subst, inl, inr, ⊎_elim, arith}
-use Rattle.std.proofs.lemmas.Bool.{and_parts, and_from, and_left, and_right, leb-true, ltb-true, lt-ltb, le-leb, lt-leb, cases_order, cases_lt, cond-true, cond-false, false≢true}
-use Rattle.std.specs.declared.cmp.Ordering.TheVariants.{Less, Equal, Greater}
-use Rattle.std.specs.List.{list_all, AllAdjacentBelow, IsAllAdjacentAnswer}
-use Rattle.std.specs.List.Sorted.{IsBinarySearchResult, IsSearchInRange, IsNonDecreasingBy}
-use Rattle.std.specs.Result.{result_ok}
-use Rattle.std.specs.Ordering.{ordering_index}
-use Rattle.records.specs.Spans.{holds, past, ascending, onward, found, side}
+use Rattle.std.proofs.Common.{◌≡◌, ℕ, zero, suc, ◌+◌, ◌<◌, ◌≤◌, Bool, true, false, ◌&&◌, ltb, leb, ◌⊎◌, List, [], ◌∷◌, length, get_or, Some, None, sym, refl, ap, ◌∙◌, subst, inl, inr, ⊎_elim, arith}
+use Rattle.std.proofs.lemmas.List.{get_or_read}
+use Rattle.std.proofs.lemmas.Bool.{and_parts, and_from, and_left, and_right, leb-true, ltb-true, lt-ltb, le-leb, lt-leb, cases_order, cond-true, cond-false, false≢true}
+use Rattle.std.specs.List.{AllAdjacentBelow, IsAllAdjacentAnswer}
+use Rattle.records.specs.Spans.{holds, past, ascending, onward, found}
 
 not_true : (b : Bool) → (b ≡ true → ⊥) → false ≡ b
 not_true true f = absurd (f refl)
@@ -52,40 +49,37 @@ module _ {R : Type 0} (first last : R → ℕ) where
   found_none key (x ∷ xs) none =
       cond-false _ _ _ (holds_not key x (none 0 x (omega arith))) ∙ ap onward (found_none key xs (λ k d h. none (suc k) d (omega arith)))
 
-  -- a record's side, both ways
-  at_less : (key : ℕ) (r : R) → side first last key r ≡ Less → last r < key
-  at_less key r e = grind arith
+  -- what a record read at a place tells of that place, whatever the default
+  pub held : (key : ℕ) (xs : List R) (i : ℕ) (x : R) → i < length xs → x ≡ get_or xs i x → first x ≤ key → key ≤ last x → (d : R) → (first (get_or xs i d) ≤ key) × (key ≤ last (get_or xs i d))
+  held key xs i x h e p q d =
+      let is = get_or_read xs i x h e d in
+      (subst (λ y. first y ≤ key) is p, subst (λ y. key ≤ last y) is q)
 
-  at_equal : (key : ℕ) (r : R) → side first last key r ≡ Equal → (first r ≤ key) × (key ≤ last r)
-  at_equal key r e = grind arith
+  -- the records below `low` end before the key, and those from `high` on start past it
+  abbrev pub Closing : List R → ℕ → ℕ → ℕ → Type 0
+  Closing xs key low high = ((k : ℕ) (d : R) → k < low → last (get_or xs k d) < key) × ((k : ℕ) (d : R) → high ≤ k → k < length xs → key < first (get_or xs k d))
 
-  at_greater : (key : ℕ) (r : R) → side first last key r ≡ Greater → key < first r
-  at_greater key r e = grind arith
+  pub closing_down : (xs : List R) (key low high i : ℕ) (x : R) → ascending first last xs ≡ true → i < length xs → x ≡ get_or xs i x → key < first x → Closing xs key low high → Closing xs key low i
+  closing_down xs key low high i x a h e l c = (
+    c.0,
+    λ k d g m.
+        let here : key < first (get_or xs i d) = subst (λ y. key < first y) (get_or_read xs i x h e d) l in
+        ⊎_elim (λ (s : k ≡ i). subst (λ j. key < first (get_or xs j d)) (sym s) here)
+        (⊎_elim (λ (s : k < i). absurd (omega arith))
+        (λ (s : i < k). omega (arith, here, own xs i d a h, apart xs i k d a s m)))
+        (cases_order k i),
+  )
 
-  -- the sides of records that lie one behind the other do not fall
-  sides_rise : (key : ℕ) (r s : R) → first r ≤ last r → last r < first s → ordering_index (side first last key r) ≤ ordering_index (side first last key s)
-  sides_rise key r s o l = grind arith
-
-  -- so neither do the sides of ascending records
-  side_rises : (key : ℕ) (xs : List R) → ascending first last xs ≡ true → IsNonDecreasingBy (λ y. ordering_index (side first last key y)) xs
-  side_rises key xs a i j d l h =
-      ⊎_elim (λ (s : i ≡ j). subst (λ k. ordering_index (side first last key (get_or xs i d)) ≤ ordering_index (side first last key (get_or xs k d))) s (omega arith))
-      (⊎_elim (λ (s : i < j). sides_rise key (get_or xs i d) (get_or xs j d) (own xs i d a (omega arith)) (apart xs i j d a s h))
-      (λ (s : j < i). absurd (omega arith)))
-      (cases_order i j)
-
-  -- what a search by sides answers among ascending records
-  pub searched : (key : ℕ) (xs : List R) (r : Result ℕ ℕ) → IsBinarySearchResult (side first last key) xs r → IsSearchInRange r (length xs) → ascending first last xs ≡ true → result_ok r ≡ found first last key xs
-  searched key [] (Ok i) is within a = absurd (omega arith)
-  searched key (x ∷ xs) (Ok i) is within a = let at = at_equal key _ (is x) in sym (found_at key (x ∷ xs) i x a within at.0 at.1)
-  searched key xs (Err i) is within a =
-      let split = is (side_rises key xs a) in
-      sym (found_none key xs (λ k d h. ⊎_elim (λ (l : k < i). inl (at_less key _ (split.0 k d (omega arith) l))) (λ (l : i ≤ k). inr (at_greater key _ (split.1 k d l h))) (cases_lt k i)))
-
-  -- whatever the order, an answer holds the key
-  pub holds_key : (key : ℕ) (xs : List R) (r : Result ℕ ℕ) → IsBinarySearchResult (side first last key) xs r → IsSearchInRange r (length xs) → IfSome (result_ok r) (λ i. (i < length xs) × ((d : R) → (first (get_or xs i d) ≤ key) × (key ≤ last (get_or xs i d))))
-  holds_key key xs (Ok i) is within = (within, λ d. at_equal key _ (is d))
-  holds_key key xs (Err i) is within = tt
+  pub closing_up : (xs : List R) (key low high i : ℕ) (x : R) → ascending first last xs ≡ true → i < length xs → x ≡ get_or xs i x → last x < key → Closing xs key low high → Closing xs key (i + 1) high
+  closing_up xs key low high i x a h e l c = (
+    λ k d g.
+        let here : last (get_or xs i d) < key = subst (λ y. last y < key) (get_or_read xs i x h e d) l in
+        ⊎_elim (λ (s : k ≡ i). subst (λ j. last (get_or xs j d) < key) (sym s) here)
+        (⊎_elim (λ (s : k < i). omega (arith, here, own xs i d a h, apart xs k i d a s h))
+        (λ (s : i < k). absurd (omega arith)))
+        (cases_order k i),
+    c.1,
+  )
 
   pub past_lower : (m n : ℕ) (xs : List R) → m ≤ n → past first n xs ≡ true → past first m xs ≡ true
   past_lower m n [] h p = refl
@@ -96,34 +90,43 @@ module _ {R : Type 0} (first last : R → ℕ) where
   one_on : (k : ℕ) → suc k + 1 ≡ suc (k + 1)
   one_on k = omega arith
 
+  -- whether the record at a place is whole
+  abbrev pub Whole : List R → ℕ → Bool → Type 0
+  Whole xs i b = (d : R) → leb (first (get_or xs i d)) (last (get_or xs i d)) ≡ b
+
+  -- x is whole, and y starts past its end
+  abbrev pub follows : R → R → Bool
+  follows x y = leb (first x) (last x) && ltb (last x) (first y)
+
   abbrev Follows : List R → Type 0
-  Follows xs = AllAdjacentBelow (λ x y. true ≡ ltb (last x) (first y)) xs (length xs)
+  Follows xs = AllAdjacentBelow (λ x y. true ≡ follows x y) xs (length xs)
 
-  -- each record is whole and starts past the end of the one before it
-  pub ascends : (xs : List R) → list_all (λ x. leb (first x) (last x)) xs ≡ true → Follows xs → ascending first last xs ≡ true
-  ascends [] w f = refl
-  ascends (x ∷ []) w f = and_from _ _ (and_parts (leb (first x) (last x)) true w).0 refl
-  ascends (x ∷ y ∷ ys) w f =
-      let parts = and_parts (leb (first x) (last x)) _ w in
-      let rest = ascends (y ∷ ys) parts.1 (λ k d h. subst (λ j. true ≡ ltb (last (get_or (y ∷ ys) k d)) (first (get_or (x ∷ y ∷ ys) j d))) (one_on k) (f (suc k) d (omega arith))) in
+  -- the last record is whole, each other too, and it starts past the end of the one before it
+  pub ascends : (xs : List R) (n : ℕ) → length xs ≡ n + 1 → Whole xs n true → Follows xs → ascending first last xs ≡ true
+  ascends [] n e w f = absurd (omega (arith, e))
+  ascends (x ∷ []) zero e w f = and_from _ _ (w x) refl
+  ascends (x ∷ []) (suc n) e w f = absurd (omega (arith, e))
+  ascends (x ∷ y ∷ ys) zero e w f = absurd (omega (arith, e))
+  ascends (x ∷ y ∷ ys) (suc n) e w f =
+      let here = and_parts (leb (first x) (last x)) (ltb (last x) (first y)) (sym (f 0 x (omega arith))) in
+      let rest = ascends (y ∷ ys) n (omega (arith, e)) w (λ k d h. subst (λ j. true ≡ follows (get_or (y ∷ ys) k d) (get_or (x ∷ y ∷ ys) j d)) (one_on k) (f (suc k) d (omega arith))) in
       let p = asc_parts y ys rest in
-      let next : ltb (last x) (first y) ≡ true = sym (f 0 x (omega arith)) in
-      let l = ltb-true (last x) (first y) next in
+      let l = ltb-true (last x) (first y) here.1 in
       let behind = past_lower (last x) (last y) ys (omega (arith, p.0)) p.1 in
-      and_from _ _ parts.0 (and_from _ _ (and_from _ _ next behind) rest)
+      and_from _ _ here.0 (and_from _ _ (and_from _ _ here.1 behind) rest)
 
-  whole : (xs : List R) → ascending first last xs ≡ true → list_all (λ x. leb (first x) (last x)) xs ≡ true
-  whole [] a = refl
-  whole (x ∷ xs) a = let p = asc_parts x xs a in and_from _ _ (le-leb (first x) (last x) p.0) (whole xs p.2)
-
-  falls : (xs : List R) → ascending first last xs ≡ true → (k : ℕ) × (k + 1 < length xs) × ((d : R) → false ≡ ltb (last (get_or xs k d)) (first (get_or xs (k + 1) d))) → ⊥
+  falls : (xs : List R) → ascending first last xs ≡ true → (k : ℕ) × (k + 1 < length xs) × ((d : R) → false ≡ follows (get_or xs k d) (get_or xs (k + 1) d)) → ⊥
   falls [] a w = absurd (omega (arith, w.1))
-  falls (x ∷ xs) a w = false≢true (w.2 x ∙ lt-ltb _ _ (apart (x ∷ xs) w.0 (w.0 + 1) x a (omega arith) w.1))
+  falls (x ∷ xs) a w =
+      let whole = own (x ∷ xs) w.0 x a (omega (arith, w.1)) in
+      let behind = apart (x ∷ xs) w.0 (w.0 + 1) x a (omega arith) w.1 in
+      false≢true (w.2 x ∙ and_from _ _ (le-leb _ _ whole) (lt-ltb _ _ behind))
 
-  -- so the test for one and the other tells the order
-  pub ordered : (xs : List R) (r : Bool) → list_all (λ x. leb (first x) (last x)) xs ≡ true → IsAllAdjacentAnswer (λ x y b. b ≡ ltb (last x) (first y)) xs r → r ≡ ascending first last xs
-  ordered xs true w f = sym (ascends xs w f)
-  ordered xs false w f = not_true (ascending first last xs) (λ a. falls xs a f)
+  -- so the test of the last and that of each with the next tell the order
+  module _ (xs : List R) (n : ℕ) (long : length xs ≡ n + 1) where
+    pub ordered : (r : Bool) → Whole xs n true → IsAllAdjacentAnswer (λ x y b. b ≡ follows x y) xs r → r ≡ ascending first last xs
+    ordered true w f = sym (ascends xs n long w f)
+    ordered false w f = not_true (ascending first last xs) (λ a. falls xs a f)
 
-  pub unordered : (xs : List R) → list_all (λ x. leb (first x) (last x)) xs ≡ false → false ≡ ascending first last xs
-  unordered xs w = not_true (ascending first last xs) (λ a. false≢true (sym w ∙ whole xs a))
+    pub unordered : (d : R) → Whole xs n false → false ≡ ascending first last xs
+    unordered d w = not_true (ascending first last xs) (λ a. false≢true (sym (w d) ∙ le-leb _ _ (own xs n d a (omega (arith, long)))))

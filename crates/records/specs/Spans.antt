@@ -1,6 +1,4 @@
 -- Records with a first and a last position, in ascending order without overlap.
-use Rattle.std.specs.declared.cmp.Ordering.{Ordering}
-use Rattle.std.specs.declared.cmp.Ordering.TheVariants.{Less, Equal, Greater}
 use Rattle.std.specs.Prelude.{ℕ, suc, Bool, true, cond, ◌&&◌, List, [], ◌∷◌, Some, None, Option, nat_le, nat_lt}
 
 -- the record runs over the position
@@ -25,7 +23,3 @@ onward (Some k) = Some (suc k)
 abbrev pub found : {R : Type 0} → (R → ℕ) → (R → ℕ) → ℕ → List R → Option ℕ
 found first last at [] = None
 found first last at (r ∷ rs) = cond (holds first last at r) (Some 0) (onward (found first last at rs))
-
--- on which side of the position the record lies
-abbrev pub side : {R : Type 0} → (R → ℕ) → (R → ℕ) → ℕ → R → Ordering
-side first last at r = cond (nat_lt at (first r)) Greater (cond (nat_lt (last r) at) Less Equal)
