@@ -1,4 +1,4 @@
 pub mod Back
-pub mod Digits
+pub mod Values
 pub mod Numbers
 pub mod Pairs

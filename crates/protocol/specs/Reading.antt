@@ -1,5 +1,5 @@
 -- Numbers as they are read.
-use Rattle.std.specs.Prelude.{ℕ, ◌+◌, ◌^◌, Bool, cond, ◌&&◌, List, length, drop, ℤ, pos, neg_ℤ, Ok, Err, Result, ◌==◌, nat_lt, slice_index}
+use Rattle.std.specs.Prelude.{Option, ℕ, ◌+◌, ◌*◌, ◌^◌, Bool, cond, ◌&&◌, List, length, drop, ℤ, pos, neg_ℤ, Some, None, Ok, Err, Result, ◌==◌, nat_lt, slice_index}
 use Rattle.std.specs.Str.Parse.{digits_value}
 use Rattle.std.specs.Char.{digit_value}
 use Rattle.std.specs.List.{list_all}
@@ -8,6 +8,15 @@ use Rattle.protocol.specs.declared.bad.Bad.TheVariants.{NotANumber, TooLarge}
 
 abbrev pub is_digit : ℕ → ℕ → Bool
 is_digit radix b = nat_lt (digit_value b) radix
+
+-- a number, where 128 bits hold it
+abbrev pub held : ℕ → Option ℕ
+held n = cond (nat_lt n (2 ^ 128)) (Some n) None
+
+-- a number with one digit more behind it
+abbrev pub longer : ℕ → ℕ → Option ℕ → Option ℕ
+longer radix digit None = None
+longer radix digit (Some n) = held (n * radix + digit)
 
 -- one digit or more and nothing else, of a value below a limit
 abbrev pub numeral_of : ℕ → ℕ → List ℕ → Result ℕ Bad

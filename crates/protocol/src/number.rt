@@ -1,17 +1,34 @@
 // Numbers: decimal, or hexadecimal after `0x`, with digits of either case; signed ones may have `-` in front.
-ghost use Rattle.std.specs.Prelude.{◌≡◌, ℕ, ◌+◌, ◌-◌, ◌^◌, ◌≤◌, IfOk};
+ghost use Rattle.std.specs.Prelude.{◌≡◌, ℕ, ◌+◌, ◌-◌, ◌^◌, ◌≤◌, IfOk, if◌then◌else◌, Ok, Err};
 ghost use Rattle.std.specs.List.{list_all};
 ghost use Rattle.std.specs.Result.{result_map_both};
-ghost use Rattle.protocol.specs.Reading.{is_digit, numeral_of, number_of, signed_of};
+ghost use Rattle.std.specs.Str.Parse.{digits_value};
+ghost use Rattle.protocol.specs.Reading.{is_digit, held, longer, numeral_of, number_of, signed_of};
+ghost use Rattle.protocol.specs.declared.bad.Bad.TheVariants.{NotANumber};
 
 use crate::bad::Bad;
 
-fn all_digits(text: &[u8], radix: u32) -> bool
+// A number so far with one digit more, or none where 128 bits do not hold it.
+fn appended(n: Option<u128>, radix: u32, digit: u32) -> Option<u128>
+    ensures { result ≡ longer radix digit n }
+{
+    n?.checked_mul(u128::from(radix))?
+        .checked_add(u128::from(digit))
+}
+
+// The number that digits write, or none where 128 bits do not hold it; where something else is among them, it is no number.
+// By one loop: `str::from_utf8` and `from_str_radix` would go over the text three times.
+fn digits_value(text: &[u8], radix: u32) -> Result<Option<u128>, Bad>
     requires low { 2 ≤ radix }
     requires high { radix ≤ 36 }
-    ensures { result ≡ list_all (is_digit radix) text.now }
+    ensures { result ≡ (if list_all (is_digit radix) text.now then Ok (held (digits_value radix text.now)) else Err NotANumber) }
 {
-    text.iter().all(|b| char::from(*b).is_digit(radix))
+    let mut n = Some(0);
+    for b in text {
+        let digit = char::from(*b).to_digit(radix).ok_or(Bad::NotANumber)?;
+        n = appended(n, radix, digit);
+    }
+    Ok(n)
 }
 
 // A number of at most `most`, in digits alone.
@@ -21,12 +38,11 @@ fn numeral(text: &[u8], radix: u32, most: u128) -> Result<u128, Bad>
     ensures value { result ≡ numeral_of (most + 1) radix text.now }
     ensures bound { IfOk result (λ n. n ≤ most) }
 {
-    if text.is_empty() || !all_digits(text, radix) {
+    if text.is_empty() {
         return Err(Bad::NotANumber);
     }
-    let digits = str::from_utf8(text).unwrap();
-    match u128::from_str_radix(digits, radix) {
-        Ok(n) if n <= most => Ok(n),
+    match digits_value(text, radix)? {
+        Some(n) if n <= most => Ok(n),
         _ => Err(Bad::TooLarge),
     }
 }
