@@ -1,10 +1,10 @@
 -- Codes one by one: what they come to, how many they are, and one turn of an iterator over them.
 use Rattle.std.proofs.Common.{◌≡◌, ℕ, zero, suc, ◌+◌, ◌*◌, ◌/◌, ◌%◌, ◌<◌, ◌≤◌, Bool, true, false, cond, leb, List, [], ◌∷◌, map, length, drop, get_or, is_ok, IfOk, Some, Ok, Err, Result, sym, refl, ap, ◌∙◌, arith, ◌==◌}
-use Rattle.std.proofs.lemmas.List.{length-drop, length-map}
+use Rattle.std.proofs.lemmas.List.{length-drop, drop-drop, length-map}
 use Rattle.std.proofs.lemmas.Bool.{le-leb, lt-leb, leb-true, false≢true}
 use Rattle.std.specs.Result.{result_map_both}
 use Rattle.infos.specs.Codes.{bind, width, meant, decoded_in}
-use Rattle.infos.specs.Codings.{codes_left}
+use Rattle.infos.specs.Codings.{slots_left, codes_left}
 use Rattle.infos.specs.Listings.{listed}
 use Rattle.infos.specs.Refusals.{InfoFault, info_fault, at_slot, told}
 use Rattle.infos.specs.Sequences.{admitted, codes_from, taken, followed, outcomes, gathered, counted}
@@ -135,19 +135,31 @@ unfolding outcomes
 refused_turn zero frame s slot bs m l d e = absurd (omega arith)
 refused_turn (suc k) frame s slot bs m l d e = rw (le-leb 2 (length bs) l, e) refl
 
+-- from the end of the slots on there is no code
+pub none_left : (frame : ℕ) (s : Progress) (slot : ℕ) (bs : List ℕ) → length bs / 2 ≤ slot → outcomes (length (drop (2 * slot) bs)) frame s slot (drop (2 * slot) bs) ≡ []
+none_left frame s slot bs h = none_at (length (drop (2 * slot) bs)) frame s slot (drop (2 * slot) bs) (omega (arith, length-drop (2 * slot) bs))
+
 module _ (c : Codes) where
-  pub ended : length c.slots.now < 2 → codes_left c ≡ []
-  ended h = none_at (length c.slots.now) c.frame c.sofar c.slot c.slots.now h
+  some_left : c.slot < length c.slots.now / 2 → 2 ≤ length (slots_left c)
+  some_left h = omega (arith, length-drop (2 * c.slot) c.slots.now)
 
-  pub next_code : 2 ≤ length c.slots.now → (p : (Code × ℕ) × Progress) → taken c.frame c.sofar c.slot c.slots.now ≡ Ok p →
-      codes_left c ≡ Ok p.0.0 ∷ outcomes (length (drop (2 * p.0.1) c.slots.now)) c.frame p.1 (c.slot + p.0.1) (drop (2 * p.0.1) c.slots.now)
-  next_code l p e = turn (length c.slots.now) c.frame c.sofar c.slot c.slots.now (omega arith) l p e
+  past : (used : ℕ) → drop (2 * used) (slots_left c) ≡ drop (2 * (c.slot + used)) c.slots.now
+  past used = drop-drop (2 * used) (2 * c.slot) c.slots.now ∙ ap (λ n. drop n c.slots.now) (omega arith)
 
-  pub next_refused : 2 ≤ length c.slots.now → (d : InfoFault) → taken c.frame c.sofar c.slot c.slots.now ≡ Err d → codes_left c ≡ Err d ∷ []
-  next_refused l d e = refused_turn (length c.slots.now) c.frame c.sofar c.slot c.slots.now (omega arith) l d e
+  pub ended : length c.slots.now / 2 ≤ c.slot → codes_left c ≡ []
+  ended h = none_left c.frame c.sofar c.slot c.slots.now h
 
-  pub few_left : 2 * length (codes_left c) ≤ length c.slots.now
-  few_left = few_outcomes (length c.slots.now) c.frame c.sofar c.slot c.slots.now
+  pub next_code : c.slot < length c.slots.now / 2 → (p : (Code × ℕ) × Progress) → taken c.frame c.sofar c.slot (slots_left c) ≡ Ok p →
+      codes_left c ≡ Ok p.0.0 ∷ outcomes (length (drop (2 * (c.slot + p.0.1)) c.slots.now)) c.frame p.1 (c.slot + p.0.1) (drop (2 * (c.slot + p.0.1)) c.slots.now)
+  next_code h p e =
+      turn (length (slots_left c)) c.frame c.sofar c.slot (slots_left c) (omega arith) (some_left h) p e
+      ∙ ap (λ l. Ok p.0.0 ∷ outcomes (length l) c.frame p.1 (c.slot + p.0.1) l) (past p.0.1)
+
+  pub next_refused : c.slot < length c.slots.now / 2 → (d : InfoFault) → taken c.frame c.sofar c.slot (slots_left c) ≡ Err d → codes_left c ≡ Err d ∷ []
+  next_refused h d e = refused_turn (length (slots_left c)) c.frame c.sofar c.slot (slots_left c) (omega arith) (some_left h) d e
+
+  pub few_left : 2 * (c.slot + length (codes_left c)) ≤ length c.slots.now
+  few_left = omega (arith, few_outcomes (length (slots_left c)) c.frame c.sofar c.slot (slots_left c), length-drop (2 * c.slot) c.slots.now, c.few.1)
 
 -- ---- a count of codes, n of which are behind
 abbrev pub more : ℕ → Result ℕ InfoFault → Result ℕ InfoFault
@@ -232,7 +244,7 @@ slot_at (suc k) frame s slot bs x rest e =
     ap (λ c. c.slot) (sym f.2) ∙ decoded-slot slot bs f.0.0 d
 
 first_slot : (c : Codes) (x : Code) (rest : List (Result Code InfoFault)) → codes_left c ≡ Ok x ∷ rest → x.slot ≡ c.slot
-first_slot c x rest e = slot_at (length c.slots.now) c.frame c.sofar c.slot c.slots.now x rest e
+first_slot c x rest e = slot_at (length (slots_left c)) c.frame c.sofar c.slot (slots_left c) x rest e
 
 pub both_ok : {T U E D : Type 0} (f : T → U) (g : E → D) (r : Result T E) (x : U) → result_map_both f g r ≡ Ok x → is_ok r ≡ true
 both_ok f g (Ok y) x e = refl

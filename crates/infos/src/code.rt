@@ -86,7 +86,7 @@ fn meaning(op: u8, info: u8, bytes: &[u8]) -> Operation
 }
 
 // The code that `bytes` begin with, which stands at this slot, and how many slots it takes.
-pub(crate) fn decode_first(slot: usize, bytes: &[u8]) -> Result<(Code, usize), InfoReason>
+fn decode_first(slot: usize, bytes: &[u8]) -> Result<(Code, usize), InfoReason>
     requires { 2 ≤ length bytes.now }
     ensures value { result_map_both (λ p. p) reason_number result ≡ decoded_in slot bytes.now }
     ensures within { IfOk result (λ p. (1 ≤ p.1) × (2 * p.1 ≤ length bytes.now)) }

@@ -11,16 +11,17 @@ use crate::codes::Codes;
 use crate::reading::read_info;
 use crate::refusal::ListRefusal;
 use layout::address::Rva;
+use records::list::RecordList;
 use tables::area::InfoArea;
 
-// Writes codes, none of which is refused, over the first records.
+// Appends codes, none of which is refused, to a list over enough records.
 fn write_codes(codes: Codes<'_>, records: &mut [Code])
     requires { (is_ok (gathered (codes_left codes)) ≡ true) × (length (listed (gathered (codes_left codes))) ≤ length records.old) }
     ensures { records.new ≡ listed (gathered (codes_left codes.entry)) ++ drop (length (listed (gathered (codes_left codes.entry)))) records.old }
 {
-    // After `iter_mut().zip(..)` a proof knows nothing of the records.
-    for (k, code) in codes.enumerate() {
-        records[k] = code.unwrap();
+    let mut list = RecordList::new(records);
+    for code in codes {
+        list.push(code.unwrap()).unwrap();
     }
 }
 

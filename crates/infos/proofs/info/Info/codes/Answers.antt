@@ -1,4 +1,4 @@
-use Rattle.std.proofs.Common.{◌≡◌, ◌≤◌, List, ℕ, length, take, sym, ap, ◌∙◌, arith}
+use Rattle.std.proofs.Common.{◌≡◌, List, ℕ, length, take, ap, ◌∙◌}
 use Rattle.std.proofs.lemmas.List.{take_all, take_min}
 use Rattle.infos.specs.Codings.{codes_left}
 use Rattle.infos.specs.Sequences.{codes_of, before_codes, gathered}
