@@ -32,17 +32,18 @@ fn run(rt: &HostRuntime) -> anyhow::Result<()> {
     for word in env::args(rt)?.skip(1) {
         words.push(word)?;
     }
+    // Of more than five words the others are left out.
     match words.as_slice() {
         [] => show_all(rt),
         [word, plan] if word.as_str() == "compile" => show_plan_file(rt, plan.as_str()),
-        [word, table, infos, start, size] if word.as_str() == "table" => show_files(
+        [word, table, infos, start, size, ..] if word.as_str() == "table" => show_files(
             rt,
             table.as_str(),
             infos.as_str(),
             start.as_str(),
             size.as_str(),
         ),
-        [word, _, _, _, _] => {
+        [word, _, _, _, _, ..] => {
             // An error holds 120 bytes of text, too few for the usage.
             eprintln!(rt; "{USAGE}")?;
             Err(anyhow!("{word} is no command"))
